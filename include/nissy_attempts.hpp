@@ -209,15 +209,19 @@ struct found_attempt {
     text_lines lines = {nullptr, nullptr};
 };
 
-// The attempts of a text, by its lines.
-inline std::vector<found_attempt> attempts_of(std::string_view text, const std::vector<nissy_text_line> &all) {
-    std::vector<found_attempt> attempts;
-    place_counter places(text);
-    text_lines lines = {all.data(), all.data() + all.size()};
+// Adds those attempts among some lines that have a scramble.
+inline void add_attempts(std::string_view text, text_lines lines, place_counter &places, std::vector<found_attempt> &attempts) {
     while (lines.first != lines.last) {
         const text_lines own = lines.take([](const nissy_text_line &it) { return it.attempt; });
         if (own.has(is_of_scramble)) attempts.push_back({attempt_of(text, own, places), own});
     }
+}
+
+// The attempts of a text, by its lines.
+inline std::vector<found_attempt> attempts_of(std::string_view text, const std::vector<nissy_text_line> &all) {
+    std::vector<found_attempt> attempts;
+    place_counter places(text);
+    add_attempts(text, {all.data(), all.data() + all.size()}, places, attempts);
     if (attempts.empty()) attempts.emplace_back();
     return attempts;
 }

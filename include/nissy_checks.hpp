@@ -1,9 +1,9 @@
 // nissy for C++17 and later: checks each attempt of a text as solvers write it, and says where in the text faults and forms stand. Only a header,
-// over nissy_names.hpp and nissy_known.hpp, with the library.
+// over nissy_names.hpp and nissy_attempts.hpp, with the library.
 #ifndef NISSY_CHECKS_HPP
 #define NISSY_CHECKS_HPP
 
-#include "nissy_known.hpp"
+#include "nissy_attempts.hpp"
 #include "nissy_names.hpp"
 
 namespace nissy {
@@ -106,22 +106,46 @@ inline bool is_same_cube(const std::string &scramble, std::string_view other) {
     }
 }
 
-// What is said of a part of a text of solutions.
-inline attempt_check check_of(std::string_view text, known_part &part, const std::vector<std::string> &scrambles, text_places &places) {
-    attempt &first = part.attempts[0].attempt;
-    if (!part.scramble) {
-        first.doubt = attempt_doubt{doubt_reason::which_scramble, places.doubted.at(part.begin)};
+// What the library says of a text that has only solutions, of this many scrambles that are known.
+struct known_lines {
+    std::vector<nissy_text_line> lines;
+    std::vector<nissy_known_part> parts;
+
+    known_lines(std::string_view text, std::size_t count) : lines(line_ends(text) + 1), parts(lines.size()) {
+        std::vector<std::uint64_t> counts(count);
+        const nissy_known_answer told =
+            nissy_known_lines(text_bytes(text), text.size(), lines.data(), lines.size(), parts.data(), parts.size(), counts.data(), count);
+        lines.resize(told.lines);
+        parts.resize(told.parts);
+    }
+
+    // the attempts of a part: the first has what stands there without a scramble, others have one of their own
+    std::vector<found_attempt> attempts(std::string_view text, const nissy_known_part &part, place_counter &places) const {
+        const nissy_text_line *const all = lines.data();
+        const text_lines solution = {all + part.first_line, all + part.solution_end};
+        std::vector<found_attempt> attempts = {{attempt_of(text, solution, places), solution}};
+        attempts[0].attempt.name = words_of(text, part.name_begin, part.name_end);
+        add_attempts(text, {solution.last, all + part.end_line}, places, attempts);
+        return attempts;
+    }
+};
+
+// What is said of the attempts of a part of such a text, which is of this scramble, or of none that can be seen.
+inline attempt_check check_of(std::string_view text, std::vector<found_attempt> attempts, std::size_t begin, const std::string *scramble,
+                              text_places &places) {
+    attempt &first = attempts[0].attempt;
+    if (scramble == nullptr) {
+        first.doubt = attempt_doubt{doubt_reason::which_scramble, places.doubted.at(begin)};
         return {first, {}, {}, {}, {}, first.doubt};
     }
-    const std::string &scramble = scrambles[*part.scramble];
     // who writes the scramble too says nothing else by it
-    if (part.attempts.size() == 2 && !first.solution && is_same_cube(part.attempts[1].attempt.scramble.line, scramble)) {
-        part.attempts[1].attempt.name = part.name;
-        return check_of(text, part.attempts[1], places);
+    if (attempts.size() == 2 && !first.solution && is_same_cube(attempts[1].attempt.scramble.line, *scramble)) {
+        attempts[1].attempt.name = first.name;
+        return check_of(text, attempts[1], places);
     }
-    if (part.attempts.size() > 1)
-        first.doubt = attempt_doubt{doubt_reason::another_scramble, places.doubted.at(part.attempts[1].attempt.scramble.places.front())};
-    return check_of(text, with_scramble(part.attempts[0], scramble), places);
+    if (attempts.size() > 1)
+        first.doubt = attempt_doubt{doubt_reason::another_scramble, places.doubted.at(attempts[1].attempt.scramble.places.front())};
+    return check_of(text, with_scramble(attempts[0], *scramble), places);
 }
 
 } // namespace detail
@@ -142,9 +166,12 @@ inline std::vector<attempt_check> check_attempts(std::string_view text, const st
     std::vector<attempt_check> checks, others;
     detail::text_places places(text);
     for (const std::string &scramble : scrambles) checks.push_back(detail::check_of(text, detail::with_scramble({}, scramble), places));
-    for (detail::known_part &part : detail::solutions_in(text, scrambles.size(), places.read)) {
-        attempt_check made = detail::check_of(text, part, scrambles, places);
-        (part.scramble ? checks[*part.scramble] : others.emplace_back(made)) = std::move(made);
+    const detail::known_lines known(text, scrambles.size());
+    for (const nissy_known_part &part : known.parts) {
+        const bool is_known = part.scramble != NISSY_NO_SCRAMBLE;
+        const std::string *const scramble = is_known ? &scrambles[part.scramble] : nullptr;
+        attempt_check made = detail::check_of(text, known.attempts(text, part, places.read), part.begin, scramble, places);
+        (is_known ? checks[part.scramble] : others.emplace_back(made)) = std::move(made);
     }
     checks.insert(checks.end(), std::make_move_iterator(others.begin()), std::make_move_iterator(others.end()));
     return checks;

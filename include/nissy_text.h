@@ -86,6 +86,36 @@ typedef struct nissy_text_answer {
  * memory. */
 nissy_text_answer nissy_text_lines(const uint8_t *text, size_t text_length, nissy_text_line *lines, size_t room);
 
+/* The scramble of a part of which that can't be told. */
+#define NISSY_NO_SCRAMBLE UINT64_MAX
+
+/* A part of a text that has only solutions, of scrambles that are known: what stands under a head, or in a block between blank lines if no line has
+ * a head and several scrambles are known. */
+typedef struct nissy_known_part {
+    uint64_t scramble;   /* which of the scrambles it is of, from 0, or NISSY_NO_SCRAMBLE */
+    uint64_t begin;      /* where its first line begins that isn't blank, in bytes of the text */
+    uint64_t name_begin; /* where its head stands; both are 0 if it has none */
+    uint64_t name_end;
+    uint64_t first_line;   /* which of the lines that are told is its first one, from 0 */
+    uint64_t solution_end; /* which is the first after those of the solution: from there on it has attempts with other scrambles */
+    uint64_t end_line;     /* which is the first after all of it */
+} nissy_known_part;
+
+/* What nissy_known_lines returns. */
+typedef struct nissy_known_answer {
+    uint8_t status; /* NISSY_DONE or NISSY_ROOM */
+    uint64_t lines; /* how many lines are told; of NISSY_ROOM how many the text has */
+    uint64_t parts; /* how many parts; of NISSY_ROOM 0 if there is no room for the lines */
+} nissy_known_answer;
+
+/* Tells of a text that has only solutions, of `count` known scrambles, which part of it is of which scramble: of the one whose number its head has,
+ * from 1, if no other part has that; of as many parts as scrambles, if none has a number, each of the one in its place. Of each line of a part under
+ * its head it tells what it is after a scramble, as nissy_text_lines does: of the solution as attempt 0, and then of those that have a scramble of
+ * their own. A part has a head or moves. As much room for lines and parts as the text has lines is enough; `counts` has room for one number a
+ * scramble, which the call uses. If the status isn't NISSY_DONE nothing in the rooms says anything. It takes no memory. */
+nissy_known_answer nissy_known_lines(const uint8_t *text, size_t text_length, nissy_text_line *lines, size_t lines_room, nissy_known_part *parts,
+                                     size_t parts_room, uint64_t *counts, size_t count);
+
 /* Whose moves are wanted. */
 enum nissy_moves_of {
     NISSY_OF_SCRAMBLE = 0, /* the lines of the scramble */

@@ -200,6 +200,20 @@ nissy_text_answer nissy_text_lines(const uint8_t *text, size_t text_length, niss
     return said;
 }
 
+nissy_known_answer nissy_known_lines(const uint8_t *text, size_t text_length, nissy_text_line *lines, size_t lines_room, nissy_known_part *parts,
+                                     size_t parts_room, uint64_t *counts, size_t count) {
+    STACK(STACK_OF_nissy_known_lines);
+    _Alignas(16) unsigned char answer[24];
+    _Static_assert(sizeof(nissy_known_part) == 56, "nissy_known_part has the size that it has in the engine");
+    w_nissy_known_lines(STACK_END, address(answer), address(text), text_length, address(lines), lines_room, address(parts), parts_room,
+                        address(counts), count);
+    const nissy_known_answer said = nissy_known_answer_at(address(answer));
+    if (said.status != NISSY_DONE) return said;
+    for (uint64_t at = 0; at < said.lines; at += 1) lines[at] = nissy_text_line_at(address(lines + at));
+    for (uint64_t at = 0; at < said.parts; at += 1) parts[at] = nissy_known_part_at(address(parts + at));
+    return said;
+}
+
 #if NISSY_BYTEWISE
 /* A copy of lines whose numbers have the form of the engine, if there is memory for it. */
 static unsigned char *copied_lines(const nissy_text_line *lines, size_t count) {

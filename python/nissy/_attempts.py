@@ -3,7 +3,7 @@ candidates beside it. Nothing of it is called at fault here: what is no line of 
 import ctypes
 from itertools import accumulate, groupby
 from operator import and_, attrgetter, ne
-from typing import Any, Dict, Iterator, List, NamedTuple, Optional, Sequence, Tuple
+from typing import Any, Callable, Dict, Iterator, List, NamedTuple, Optional, Sequence, Tuple
 
 from . import _library
 from ._given import Text, bytes_of
@@ -132,15 +132,16 @@ class Moves:
 
 
 class Reader:
-    """A text that is read by lines, or a part of one: some bytes, with this many of the whole text before them."""
+    """A text that is read by lines."""
 
-    def __init__(self, whole: Written, data: bytes, before: int = 0) -> None:
-        self.whole, self._data, self._before = whole, data, before
-        most = data.count(b"\n") + data.count(b"\r") + 1
+    def __init__(self, whole: Written, tell: Callable[..., Any] = _library.nissy_text_lines) -> None:
+        self.whole, self._data = whole, whole.data
+        most = self._data.count(b"\n") + self._data.count(b"\r") + 1
         # the library reads the lines there again
         self._room = bytearray(TEXT_LINE.size * most)
         self._address = ctypes.addressof(ctypes.c_char.from_buffer(self._room))
-        self.count = _library.nissy_text_lines(data, len(data), self._address, most).lines
+        self.answer = tell(self._data, len(self._data), self._address, most)
+        self.count = self.answer.lines
         self._told = memoryview(self._room)[: TEXT_LINE.size * self.count]
         self._kinds, self._are_solution, self._are_headed, self._doubts = (
             bytes(self._told[at :: TEXT_LINE.size]) for at in _BYTES
@@ -156,10 +157,11 @@ class Reader:
     def _line(self, at: int) -> TextLine:
         return TextLine(at, *TEXT_LINE.unpack_from(self._room, TEXT_LINE.size * at))
 
-    def attempts(self) -> List[Tuple[int, int]]:
-        """Returns from which line to which each attempt reaches that has a scramble."""
-        numbers = self._told.cast("B").cast("Q")[1 :: TEXT_LINE.size // 8].tolist()
-        begins = [0, *(at for at, is_first in enumerate(map(ne, numbers, numbers[1:]), 1) if is_first), self.count]
+    def attempts(self, begin: int, end: int) -> List[Tuple[int, int]]:
+        """Returns from which line to which each attempt reaches among some lines that has a scramble."""
+        numbers = self._told.cast("B").cast("Q")[1 :: TEXT_LINE.size // 8][begin:end].tolist()
+        firsts = (at for at, is_first in enumerate(map(ne, numbers, numbers[1:]), begin + 1) if is_first)
+        begins = [begin, *firsts, end]
         return [it for it in zip(begins, begins[1:]) if self._kinds.find(SCRAMBLE, *it) >= 0]
 
     def moves(self, which: int) -> Moves:
@@ -176,9 +178,6 @@ class Reader:
                     self._data, len(self._data), self._address, self.count, which, *rooms, *parts
                 ),
             )
-            if self._before:
-                # what stands before the text isn't cut out
-                written = written._replace(places=tuple(max(self._before + place, 0) for place in written.places))
             self._moves[which] = Moves(self.whole, written, nth, list(MOVES_PART.iter_unpack(memoryview(room)[:-1])))
         return self._moves[which]
 
@@ -197,17 +196,17 @@ class Reader:
 
     def place(self, byte: int) -> TextPlace:
         """Returns the place of a byte in the whole text."""
-        return self.whole.place(self.whole.at(self._before + byte))
+        return self.whole.place(self.whole.at(byte))
 
-    def _part(self, begin: int, end: int) -> str:
+    def words(self, begin: int, end: int) -> str:
         """Returns some bytes as words."""
-        return self.whole.part(self._before + begin, self._before + end).strip(_WHITE)
+        return self.whole.part(begin, end).strip(_WHITE)
 
     def _note(self, line: TextLine) -> str:
         """Returns what a line without moves says: its label, if nothing follows that, else all of it."""
-        if line.label_begin < line.label_end and not self._part(line.moves, line.end):
+        if line.label_begin < line.label_end and not self.words(line.moves, line.end):
             return self._label(line)
-        said = self._part(line.head_end, line.end)
+        said = self.words(line.head_end, line.end)
         return said[2:].strip(_WHITE) if said.startswith("//") else said
 
     def name(self, begin: int, end: int) -> str:
@@ -216,10 +215,10 @@ class Reader:
         if at < 0:
             return ""
         line = self._line(at)
-        return self._part(line.begin, line.head_end)
+        return self.words(line.begin, line.head_end)
 
     def _label(self, line: TextLine) -> str:
-        return self._part(line.label_begin, line.label_end)
+        return self.words(line.label_begin, line.label_end)
 
     def _candidate(self, lines: List[TextLine]) -> AttemptCandidate:
         steps = self._steps([line for line in lines if line.kind == STEP])
@@ -240,6 +239,10 @@ class Reader:
         before, doubt = self._kinds.count(_BEFORE, begin, end), self._doubt(begin, end)
         made = Attempt(self.name(begin, end), self.moves(_OF_SCRAMBLE).of(begin, end), (), None, (), before, doubt)
         return made if self._kinds.find(STEP, begin, end) < 0 else self._with_steps(made, self.lines(begin, end))
+
+    def found(self, begin: int, end: int) -> "Found":
+        """Returns the same with its lines."""
+        return Found(self.attempt(begin, end), self, begin, end)
 
     def _with_steps(self, attempt: Attempt, lines: Sequence[TextLine]) -> Attempt:
         all_steps = [line for line in lines if line.kind == STEP]
@@ -279,11 +282,11 @@ class Found(NamedTuple):
 
 def attempts_of(whole: Written) -> Lazily[Found]:
     """Returns the attempts of a text, at least one."""
-    reader = Reader(whole, whole.data)
-    attempts = reader.attempts()
+    reader = Reader(whole)
+    attempts = reader.attempts(0, reader.count)
     if not attempts:
         return Lazily(1, lambda at: Found(Attempt("", _NOTHING, (), None, (), 0)))
-    return Lazily(len(attempts), lambda at: Found(reader.attempt(*attempts[at]), reader, *attempts[at]))
+    return Lazily(len(attempts), lambda at: reader.found(*attempts[at]))
 
 
 def read_attempts(text: Text) -> Sequence[Attempt]:

@@ -48,6 +48,7 @@ LinesAnswer = _struct("status:1 lines:8 bytes:8")
 PlainAnswer = _struct("status:1 left_out:1 length:8")
 PartAnswer = _struct("status:1 how:1 first:1 last:1 begin:8")
 TextAnswer = _struct("status:1 lines:8 attempts:8")
+KnownAnswer = _struct("status:1 lines:8 parts:8")
 WaysWanted = _struct("slack:1 axes:1 least:1 most:1 most_nodes:8 there:8")
 WaysAnswer = _struct("status:1 fault:1 line:1 next:1 column:4 rows:8 tried:8 nodes:8")
 SidesWanted = _struct("sides:1 length:1 counts:1 passed:8 most_nodes:8")
@@ -63,6 +64,7 @@ PART = struct.Struct("=B" + 2 * "2B20s")
 WAY = struct.Struct("=H4B" + 2 * PART.format[1:])
 TEXT_LINE = struct.Struct("=B4?B2x10Q")
 MOVES_PART = struct.Struct("=2QB7x")
+KNOWN_PART = struct.Struct("=7Q")
 
 _NAME = {"win32": "nissy.dll", "cygwin": "nissy.dll", "darwin": "libnissy.2.dylib"}.get(sys.platform, "libnissy.so.2")
 """What the library is called on this system."""
@@ -140,6 +142,7 @@ nissy_solve_sides = _call("nissy_solve_sides", SidesAnswer, _PLACE, *_READ, *_RE
 nissy_line_after = _call("nissy_line_after", LineAfterAnswer, *_READ, *_READ, *_WRITTEN)
 nissy_plain = _call("nissy_plain", PlainAnswer, *_READ, *_WRITTEN, *_WRITTEN)
 nissy_text_lines = _call("nissy_text_lines", TextAnswer, *_READ, *_WRITTEN)
+nissy_known_lines = _call("nissy_known_lines", KnownAnswer, *_READ, *_WRITTEN, *_WRITTEN, *_WRITTEN)
 nissy_text_moves = _call(
     "nissy_text_moves", PlainAnswer, *_READ, _PLACE, _NUMBER, _BYTE, *_WRITTEN, *_WRITTEN, *_WRITTEN
 )

@@ -88,6 +88,39 @@ static void moves_are_of_the_text(guarded text, const char *name) {
     }
 }
 
+/* The parts of a text of solutions, and their lines: each of the text, those of a part after those of the one before. */
+static void parts_are_of_the_text(guarded text, const char *name) {
+    enum { KNOWN = 2 };
+    guarded room = guard(sizeof(nissy_text_line) * text.size), of_parts = guard(sizeof(nissy_known_part) * text.size), counts = guard(8 * KNOWN);
+    const nissy_text_line *const lines = (const nissy_text_line *)(void *)room.bytes;
+    const nissy_known_part *const parts = (const nissy_known_part *)(void *)of_parts.bytes;
+    const nissy_known_answer got = nissy_known_lines(text.bytes, text.size, (nissy_text_line *)(void *)room.bytes, text.size,
+                                                     (nissy_known_part *)(void *)of_parts.bytes, text.size, (uint64_t *)(void *)counts.bytes, KNOWN);
+    uint64_t line = 0, begin = 0;
+    int is_right = got.status == NISSY_DONE;
+    for (uint64_t at = 0; is_right && at < got.parts; at++) {
+        const nissy_known_part part = parts[at];
+        is_right = part.first_line == line && part.first_line <= part.solution_end && part.solution_end <= part.end_line &&
+                   part.end_line <= got.lines && part.name_begin <= part.name_end && part.name_end <= text.size &&
+                   (part.scramble < KNOWN || part.scramble == NISSY_NO_SCRAMBLE);
+        for (; is_right && line < part.end_line; line++) {
+            is_right = lines[line].begin >= begin && is_line_of(text, lines + line, lines[line].begin) &&
+                       (lines[line].attempt == 0) == (line < part.solution_end);
+            begin = behind(text, lines[line].end);
+        }
+    }
+    holds(is_right && line == got.lines, "parts with lines", name);
+    if (got.parts > 0) {
+        guarded small = guard(sizeof(nissy_known_part) * (got.parts - 1));
+        const nissy_known_answer few =
+            nissy_known_lines(text.bytes, text.size, (nissy_text_line *)(void *)room.bytes, text.size, (nissy_known_part *)(void *)small.bytes,
+                              got.parts - 1, (uint64_t *)(void *)counts.bytes, KNOWN);
+        holds(few.status == NISSY_ROOM && few.parts == got.parts, "too small a room for parts", name);
+        let_go(small);
+    }
+    let_go(room), let_go(of_parts), let_go(counts);
+}
+
 static void drawn_texts(void) {
     static const char *const PARTS[] = {
         "R U F", "\n",         "\r\n", "\r",           "// ",  "EO: ",           "Solution: ",       "1. ", "#2 ", "R' U' F D R' U' F",
@@ -105,6 +138,7 @@ static void drawn_texts(void) {
         plain_is_of_the_text(read, text);
         lines_are_of_the_text(read, text);
         moves_are_of_the_text(read, text);
+        parts_are_of_the_text(read, text);
         let_go(read);
     }
 }
@@ -121,6 +155,34 @@ static void a_sheet(void) {
     holds(lines[1].solution && lines[1].comment == 18 && lines[1].end == 23 && !lines[1].inverse, "its first solution", "a sheet");
     holds(lines[4].solution && lines[4].labelled && lines[4].inverse && lines[4].group == 0, "its second solution", "a sheet");
     holds(lines[4].doubt == NISSY_SIDE && lines[4].doubt_at == 51 && lines[1].doubt == NISSY_NO_DOUBT, "its doubt", "a sheet");
+}
+
+/* Whether a text has this part of two known scrambles, and how its first line is read. */
+static void has_part(const char *text, unsigned nth, nissy_known_part wanted, nissy_text_line first) {
+    nissy_text_line lines[8];
+    nissy_known_part parts[8];
+    uint64_t counts[2];
+    const nissy_known_answer got = nissy_known_lines((const uint8_t *)text, strlen(text), lines, 8, parts, 8, counts, 2);
+    holds(got.status == NISSY_DONE && nth < got.parts, "a part", text);
+    holds(memcmp(parts + nth, &wanted, sizeof wanted) == 0, "which it is", text);
+    const nissy_text_line *const line = lines + parts[nth].first_line;
+    holds(line->kind == first.kind && line->solution == first.solution && line->attempt == first.attempt, "what its line is", text);
+    holds(line->begin == first.begin && line->moves == first.moves && line->comment == first.comment && line->end == first.end, "where it is", text);
+}
+
+/* Solutions of two scrambles: under numbers, in blocks, and with the scramble above the solution. */
+static void known_scrambles(void) {
+    static const char NUMBERED[] = "2. F' U' R'\n1. U' R' // easy\n3. R", BLOCKS[] = "F' U' R'\n\nU' R'", WHOLE[] = "1:\nR' U' F D R' U' F\nR";
+    const nissy_text_line step = {.kind = NISSY_STEP_LINE, .solution = 1, .begin = 2, .moves = 3, .comment = 11, .end = 11};
+    has_part(NUMBERED, 0, (nissy_known_part){1, 0, 0, 2, 0, 1, 1}, step);
+    const nissy_text_line other = {.kind = NISSY_STEP_LINE, .solution = 1, .begin = 14, .moves = 15, .comment = 21, .end = 28};
+    has_part(NUMBERED, 1, (nissy_known_part){0, 12, 12, 14, 1, 2, 2}, other);
+    const nissy_text_line last = {.kind = NISSY_STEP_LINE, .solution = 1, .begin = 31, .moves = 32, .comment = 33, .end = 33};
+    has_part(NUMBERED, 2, (nissy_known_part){NISSY_NO_SCRAMBLE, 29, 29, 31, 2, 3, 3}, last);
+    const nissy_text_line block = {.kind = NISSY_STEP_LINE, .solution = 1, .begin = 10, .moves = 10, .comment = 15, .end = 15};
+    has_part(BLOCKS, 1, (nissy_known_part){1, 10, 0, 0, 1, 2, 2}, block);
+    const nissy_text_line scramble = {.kind = NISSY_SCRAMBLE_LINE, .attempt = 1, .begin = 3, .moves = 3, .comment = 20, .end = 20};
+    has_part(WHOLE, 0, (nissy_known_part){0, 0, 0, 2, 0, 0, 2}, scramble);
 }
 
 /* Whether the moves of some lines of a text are this line, with these places, and leave this out. */
@@ -271,6 +333,7 @@ static void nothing(void) {
 int main(void) {
     drawn_texts();
     a_sheet();
+    known_scrambles();
     moves_of_a_sheet();
     lines_of_no_text();
     parts_of_steps();

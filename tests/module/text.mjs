@@ -1,10 +1,12 @@
-// The module's two calls that read text as solvers write it, by their addresses as ABI.md has them.
+// The module's calls that read text as solvers write it, by their addresses as ABI.md has them.
 //
 //     node tests/module/text.mjs MODULE
 import { ended, moduleBytes, same } from "./tally.mjs";
 
 const LINE = 88;
 const PLACE = 8;
+const OF_PART = 56;
+const NO_SCRAMBLE = 2n ** 64n - 1n;
 const { exports } = (await WebAssembly.instantiate(moduleBytes)).instance;
 const begin = Math.ceil(Number(exports.__heap_base.value) / 16) * 16;
 exports.memory.grow(2);
@@ -41,6 +43,16 @@ function lines(text, room) {
   return [view().getUint8(begin), long(begin + 8), long(begin + 16), told];
 }
 
+/** What `nissy_known_lines` says of a text, of so many scrambles: its answer, and of each part its seven numbers. */
+function known(text, scrambles, room) {
+  const { at, length, free } = put(text);
+  const [parts, counts] = [free + LINE * room, free + (LINE + OF_PART) * room];
+  exports.nissy_known_lines(BigInt(begin), at, length, ...[free, room, parts, room, counts, scrambles].map(BigInt));
+  const told = Array.from({ length: Math.min(room, long(begin + 16)) }, (_, of) =>
+    Array.from({ length: OF_PART / PLACE }, (__, field) => view().getBigUint64(parts + OF_PART * of + PLACE * field, true)));
+  return [view().getUint8(begin), long(begin + 8), long(begin + 16), told];
+}
+
 // a label, a comma and a comment: their bits, and the places of the bytes that stay
 same("a plain line", plain("EO: R, U // two", 64), [0, 1 + 4 + 16, " R  U ", [3, 4, 5, 6, 7, 8]]);
 same("an apostrophe beyond ASCII takes three bytes", plain("R`", 64), [0, 0, "R\u2019", [0, 1, 1, 1]]);
@@ -53,4 +65,10 @@ const STEP = [[3, 1, 0, 0, 0, 0], [0, 0, 9, 9, 9, 9, 9, 18, 23, 23]];
 same("a sheet of two lines", lines(SHEET, 4), [0, 2, 1, [SCRAMBLE, STEP]]);
 same("room for one of them", lines(SHEET, 1), [4, 2, 1, [SCRAMBLE]]);
 same("no lines", lines("", 0), [0, 0, 0, []]);
+
+const SOLUTIONS = "2. F' U' R'\n1. U' R'\n3. R";
+const PARTS = [[1n, 0n, 0n, 2n, 0n, 1n, 1n], [0n, 12n, 12n, 14n, 1n, 2n, 2n], [NO_SCRAMBLE, 21n, 21n, 23n, 2n, 3n, 3n]];
+same("solutions of two known scrambles", known(SOLUTIONS, 2, 3), [0, 3, 3, PARTS]);
+same("too small a room for their lines", known(SOLUTIONS, 2, 2).slice(0, 3), [4, 3, 0]);
+same("no solutions", known("", 2, 0), [0, 0, 0, []]);
 ended();

@@ -17,7 +17,7 @@ pub use niss_embed::{
 };
 pub use niss_kept::Held;
 pub use niss_ways::{Part, SideTurns, Way};
-pub use reading_calls::{nissy_plain, nissy_text_lines, nissy_text_moves};
+pub use reading_calls::{nissy_known_lines, nissy_plain, nissy_text_lines, nissy_text_moves};
 pub use run_call::nissy_run;
 pub use table_calls::{
     nissy_build, nissy_count, nissy_count_lines, nissy_solve, nissy_solve_after,

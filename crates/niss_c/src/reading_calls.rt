@@ -1,10 +1,14 @@
 //! The calls that read text as solvers write it.
 ghost use Rattle.std.specs.Prelude.{◌≡◌, ◌≤◌, ◌<◌, ◌*◌, length, take, drop};
 ghost use Rattle.niss_text.specs.Plain.{IsPlain};
-ghost use Rattle.niss_text.specs.Lines.{Covers, Counts};
+ghost use Rattle.niss_text.specs.Lines.{Covers, Counts, Takes};
 ghost use Rattle.niss_text.specs.Moves.{WritesMoves};
+ghost use Rattle.niss_text.specs.Known.{AreKnown};
 
-use niss_text::{MovesPart, PlainAnswer, TextAnswer, TextLine, plain_line, text_lines, text_moves};
+use niss_text::{
+    KnownAnswer, KnownPart, MovesPart, PlainAnswer, TextAnswer, TextLine, known_lines, plain_line,
+    text_lines, text_moves,
+};
 
 /// Writes a text as one line, with the place of each byte, as `plain_line` of `niss_text`.
 #[unsafe(no_mangle)]
@@ -45,4 +49,23 @@ pub extern "C" fn nissy_text_moves(
     ensures { WritesMoves text.now lines.now which out.old out.new places.old places.new parts.old parts.new result }
 {
     text_moves(text, lines, which, out, places, parts)
+}
+
+/// Tells which part of a text of solutions is of which scramble that is known, and of each line what it is, as
+/// `known_lines` of `niss_text`.
+#[unsafe(no_mangle)]
+pub extern "C" fn nissy_known_lines(
+    text: &[u8],
+    lines: &mut [TextLine],
+    parts: &mut [KnownPart],
+    counts: &mut [u64],
+) -> KnownAnswer
+    ensures few { (result.lines ≤ length text.now) × (result.parts ≤ length text.now) }
+    ensures fits { result.status ≡ 0 → (result.lines ≤ length lines.old) × (result.parts ≤ length parts.old) }
+    ensures room { length text.now ≤ length lines.old → length text.now ≤ length parts.old → result.status ≡ 0 }
+    ensures takes { result.status ≡ 0 → Takes text.now 0 (take result.lines lines.new) (length text.now) }
+    ensures known { result.status ≡ 0 → AreKnown (length counts.old) (take result.parts parts.new) }
+    ensures behind { drop result.parts parts.new ≡ drop result.parts parts.old }
+{
+    known_lines(text, lines, parts, counts)
 }

@@ -15,7 +15,7 @@ mod text_calls;
 pub use best_call::{nissy_best, nissy_line_after, nissy_solve_sides};
 pub use check_calls::{nissy_check, nissy_facts, nissy_facts_lines, nissy_solving_part};
 pub use held::{Held, Kept};
-pub use reading_calls::{nissy_plain, nissy_text_lines, nissy_text_moves};
+pub use reading_calls::{nissy_known_lines, nissy_plain, nissy_text_lines, nissy_text_moves};
 pub use room::{Block, Room};
 pub use run_call::nissy_run;
 pub use table_calls::{

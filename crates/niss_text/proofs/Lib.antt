@@ -3,3 +3,4 @@ pub mod PlainLemmas
 pub mod LineLemmas
 pub mod DoubtLemmas
 pub mod MovesLemmas
+pub mod KnownLemmas

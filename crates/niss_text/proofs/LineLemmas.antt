@@ -5,7 +5,7 @@ use Rattle.niss_text.specs.declared.text_line.TextLine.{TextLine}
 use Rattle.niss_text.specs.Signs.{ends_line}
 use Rattle.niss_text.specs.Doubts.{IsDoubted}
 use Rattle.niss_text.specs.Lines.{IsLine, IsUnbroken, IsEnd, end_of, end_size}
-unfoldable use Rattle.niss_text.specs.Lines.{Covers, Counts}
+unfoldable use Rattle.niss_text.specs.Lines.{Covers, Counts, Takes}
 
 pub covers_none : (text : List ℕ) (at : ℕ) → Covers text at [] at
 unfolding Covers
@@ -29,19 +29,53 @@ end_size_at text now size =
     ap (λ a. end_of a (get_or (drop now text) (size + 1) 0)) first
     ∙ ap (λ b. end_of (get_or text (now + size) 0) b) (second ∙ ap (λ n. get_or text n 0) same)
 
+line_ends : (text : List ℕ) (now size whole : ℕ) (line : TextLine) → line.end ≡ now + size → whole ≡ size + end_size (drop now text) size →
+    line.end + end_size text line.end ≡ now + whole
+line_ends text now size whole line end all =
+    ap (λ n. n + end_size text n) end ∙ ap (λ n. now + size + n) (sym (end_size_at text now size)) ∙ sum ∙ ap (λ n. now + n) (sym all)
+  where
+    sum : now + size + end_size (drop now text) size ≡ now + (size + end_size (drop now text) size)
+    sum = omega arith
+
 -- the same in memory: a line is cut from the rest of a text
 pub covers_next : (text : List ℕ) (lines : List TextLine) (count now size whole : ℕ) (line : TextLine) → count < length lines →
     Covers text 0 (take count lines) now → IsLine now line → IsDoubted text line → line.end ≡ now + size → IsUnbroken (drop now text) 0 size →
     whole ≡ size + end_size (drop now text) size → Covers text 0 (take (count + 1) (set lines count line)) (now + whole)
 covers_next text lines count now size whole line room far is told end unbroken all =
-    let there : line.end + end_size text line.end ≡ now + whole =
-    ap (λ n. n + end_size text n) end ∙ ap (λ n. now + size + n) (sym (end_size_at text now size)) ∙ sum ∙ ap (λ n. now + n) (sym all) in
+    let there : line.end + end_size text line.end ≡ now + whole = line_ends text now size whole line end all in
     let broken : IsUnbroken text now size = λ k lt. ap (λ b. ends_line b) (sym (get_or-drop now text k 0)) ∙ ap (λ n. ends_line (get_or (drop now text) n 0)) (sym (zero-add k)) ∙ unbroken k lt in
     subst (λ (ls : List TextLine). Covers text 0 ls (now + whole)) (sym (take_more_set lines count line room))
     (subst (λ (n : ℕ). Covers text 0 (take count lines ++ line ∷ []) n) there (covers_more text 0 (take count lines) now line size far is told end broken))
-  where
-    sum : now + size + end_size (drop now text) size ≡ now + (size + end_size (drop now text) size)
-    sum = omega arith
+
+takes_more : (text : List ℕ) (from : ℕ) (lines : List TextLine) (to : ℕ) (line : TextLine) (size : ℕ) → Takes text from lines to → IsLine to line → IsDoubted text line →
+    line.end ≡ to + size → IsUnbroken text to size → Takes text from (lines ++ line ∷ []) (line.end + end_size text line.end)
+unfolding Takes
+takes_more text from [] to line size far is told end whole =
+    subst (λ (at : ℕ). (from ≤ at) × (IsLine at line × (IsDoubted text line × ((n : ℕ) × (line.end ≡ at + n) × IsUnbroken text at n
+    × (line.end + end_size text line.end ≤ line.end + end_size text line.end))))) (sym is.begins) (far, (is, (told, (size, end, whole, omega arith))))
+takes_more text from (l ∷ ls) to line size far is told end whole =
+    (far.0, (far.1.0, (far.1.1.0, (far.1.1.1.0, far.1.1.1.1, far.1.1.1.2, takes_more text (l.end + end_size text l.end) ls to line size far.1.1.1.3 is told end whole))))
+
+-- the same in memory
+pub takes_next : (text : List ℕ) (lines : List TextLine) (count now size whole : ℕ) (line : TextLine) → count < length lines →
+    Takes text 0 (take count lines) now → IsLine now line → IsDoubted text line → line.end ≡ now + size → IsUnbroken (drop now text) 0 size →
+    whole ≡ size + end_size (drop now text) size → Takes text 0 (take (count + 1) (set lines count line)) (now + whole)
+takes_next text lines count now size whole line room far is told end unbroken all =
+    let there : line.end + end_size text line.end ≡ now + whole = line_ends text now size whole line end all in
+    let broken : IsUnbroken text now size = λ k lt. ap (λ b. ends_line b) (sym (get_or-drop now text k 0)) ∙ ap (λ n. ends_line (get_or (drop now text) n 0)) (sym (zero-add k)) ∙ unbroken k lt in
+    subst (λ (ls : List TextLine). Takes text 0 ls (now + whole)) (sym (take_more_set lines count line room))
+    (subst (λ (n : ℕ). Takes text 0 (take count lines ++ line ∷ []) n) there (takes_more text 0 (take count lines) now line size far is told end broken))
+
+pub takes_none : (text : List ℕ) → Takes text 0 [] 0
+unfolding Takes
+takes_none text = omega arith
+
+-- others follow
+pub takes_further : (text : List ℕ) (from : ℕ) (lines : List TextLine) (to more : ℕ) → Takes text from lines to → to ≤ more → Takes text from lines more
+unfolding Takes
+takes_further text from [] to more far le = omega (arith, far, le)
+takes_further text from (l ∷ ls) to more far le =
+    (far.0, (far.1.0, (far.1.1.0, (far.1.1.1.0, far.1.1.1.1, far.1.1.1.2, takes_further text (l.end + end_size text l.end) ls to more far.1.1.1.3 le))))
 
 pub counts_none : (text : List ℕ) (at : ℕ) → Counts text at 0 at
 unfolding Counts
@@ -80,7 +114,7 @@ pub same_behind_none : (lines first : List TextLine) (count : ℕ) → drop coun
 same_behind_none lines first count far = sym (drop-drop 1 count lines) ∙ ap (λ v. drop 1 v) far ∙ drop-drop 1 count first
 
 -- what is the same after some lines is so after more of them
-pub more_behind : (lines first : List TextLine) (count more : ℕ) → count ≤ more → drop count lines ≡ drop count first → drop more lines ≡ drop more first
+pub more_behind : {Item : Type 0} (lines first : List Item) (count more : ℕ) → count ≤ more → drop count lines ≡ drop count first → drop more lines ≡ drop more first
 more_behind lines first count more le far =
     let split : count + (more - count) ≡ more = omega arith in
     ap (λ n. drop n lines) (sym split) ∙ sym (drop-drop (more - count) count lines) ∙ ap (λ v. drop (more - count) v) far

@@ -3,6 +3,7 @@ pub mod Signs
 pub mod Pieces
 pub mod Doubts
 pub mod Lines
+pub mod Known
 pub mod LeftOut
 pub mod Moves
 pub mod Written

@@ -1,11 +1,11 @@
 //! The attempts of a text as solvers write it: which of its lines are scrambles, steps and notes.
 ghost use Rattle.std.specs.Prelude.{◌≡◌, ◌≤◌, ◌<◌, ◌+◌, length, take, drop, set};
-ghost use Rattle.niss_text.specs.Lines.{IsLine, Covers, Counts};
+ghost use Rattle.niss_text.specs.Lines.{IsLine, Covers, Counts, Takes};
 
 use crate::doubts::judged;
 use crate::groups::{Group, Solutions};
 use crate::line::{Line, Numbers, cut_line, first_line, whole_length};
-use crate::outline::{is_head, outline_of, scramble_length};
+use crate::outline::{is_head, length_behind_scramble, outline_of, scramble_length};
 use crate::status::Status;
 use crate::stretches::{has_extras, numbers_of, stretch_length};
 use crate::text_line::{LineKind, Role, TextLine, told_line};
@@ -121,6 +121,8 @@ fn put_attempt(
     ensures further { (begin < result.1) × (result.1 ≤ length text.now) }
     ensures covers { Covers text.now 0 (take written lines.old) begin → result.0 ≤ length lines.new →
         Covers text.now 0 (take result.0 lines.new) result.1 }
+    ensures takes { Takes text.now 0 (take written lines.old) begin → result.0 ≤ length lines.new →
+        Takes text.now 0 (take result.0 lines.new) result.1 }
     ensures counts { Counts text.now 0 written begin → Counts text.now 0 result.0 result.1 }
     ensures behind { drop result.0 lines.new ≡ drop result.0 lines.old }
 {
@@ -151,6 +153,108 @@ fn from_place(text: &[u8], at: usize) -> &[u8]
     &text[at..]
 }
 
+/// How far a text is read: where the next line begins, how many lines are written, and how many attempts these are.
+#[derive(Clone, Copy)]
+pub struct Progress {
+    pub at: usize,
+    pub lines: usize,
+    pub attempts: usize,
+    ghost few: { lines ≤ at },
+}
+
+impl Progress {
+    /// Before the first line.
+    pub fn nothing() -> Progress
+        ensures { (result.at ≡ 0) × (result.lines ≡ 0) }
+    {
+        Progress {
+            at: 0,
+            lines: 0,
+            attempts: 0,
+        }
+    }
+}
+
+/// Writes the lines of the attempts of a text from a place up to another one, as long as there is room.
+pub fn put_attempts(text: &[u8], end: usize, so_far: Progress, lines: &mut [TextLine]) -> Progress
+    requires begin { so_far.at ≤ length text.now }
+    requires end { end ≤ length text.now }
+    ensures more { so_far.lines ≤ result.lines }
+    ensures further { (end ≤ result.at) × ((so_far.at ≤ result.at) × (result.at ≤ length text.now)) }
+    ensures covers { Covers text.now 0 (take so_far.lines lines.old) so_far.at → result.lines ≤ length lines.new →
+        Covers text.now 0 (take result.lines lines.new) result.at }
+    ensures takes { Takes text.now 0 (take so_far.lines lines.old) so_far.at → result.lines ≤ length lines.new →
+        Takes text.now 0 (take result.lines lines.new) result.at }
+    ensures counts { Counts text.now 0 so_far.lines so_far.at → Counts text.now 0 result.lines result.at }
+    ensures behind { drop result.lines lines.new ≡ drop result.lines lines.old }
+{
+    let has_extras = has_extras(&text[so_far.at.min(end)..end]);
+    let mut stretch_end = 0;
+    let mut numbers = Numbers::OfLines;
+    let mut at = so_far.at;
+    let mut count = so_far.lines;
+    let mut attempts = so_far.attempts;
+    while at < end {
+        if at >= stretch_end {
+            stretch_end = at + stretch_length(&text[at..end]);
+            numbers = numbers_of(&text[at..stretch_end], has_extras);
+        }
+        let attempt = first_attempt(&text[at..stretch_end], numbers, attempts);
+        let (more, next) = put_attempt(text, at, &attempt, lines, count);
+        count = more;
+        at = next;
+        attempts = attempts.saturating_add(1);
+    }
+    Progress {
+        at,
+        lines: count,
+        attempts,
+    }
+}
+
+/// Writes the lines of a text from a place up to another one, or up to the next scramble, as those that follow a
+/// scramble.
+pub fn put_solution(text: &[u8], end: usize, so_far: Progress, lines: &mut [TextLine]) -> Progress
+    requires begin { so_far.at ≤ end }
+    requires end { end ≤ length text.now }
+    ensures more { so_far.lines ≤ result.lines }
+    ensures within { (so_far.at ≤ result.at) × (result.at ≤ length text.now) }
+    ensures takes { Takes text.now 0 (take so_far.lines lines.old) so_far.at → result.lines ≤ length lines.new →
+        Takes text.now 0 (take result.lines lines.new) result.at }
+{
+    let length = length_behind_scramble(&text[so_far.at..end]);
+    if length == 0 {
+        return Progress {
+            attempts: 1,
+            at: so_far.at,
+            lines: so_far.lines,
+        };
+    }
+    let attempt = solution_alone(&text[so_far.at..so_far.at + length]);
+    let (count, at) = put_attempt(text, so_far.at, &attempt, lines, so_far.lines);
+    Progress {
+        at,
+        lines: count,
+        attempts: 1,
+    }
+}
+
+/// An attempt without its scramble.
+fn solution_alone(text: &[u8]) -> Attempt
+    ensures { result.length ≡ length text.now }
+{
+    let numbers = Numbers::OfLines;
+    Attempt {
+        number: 0,
+        numbers,
+        is_formed: true,
+        solution: solutions_of(text, numbers).group(),
+        first: 0,
+        scramble_end: 0,
+        length: text.len(),
+    }
+}
+
 /// Tells of each line of a text what it is, as long as there is room: the answer has how many lines there are, and says
 /// `NoRoom` if these are more than have room. A text has no more lines than bytes. What follows them stays as it is.
 pub fn text_lines(text: &[u8], lines: &mut [TextLine]) -> TextAnswer
@@ -161,31 +265,15 @@ pub fn text_lines(text: &[u8], lines: &mut [TextLine]) -> TextAnswer
     ensures room { length lines.old < result.lines → result.status ≡ 4 }
     ensures behind { drop result.lines lines.new ≡ drop result.lines lines.old }
 {
-    let has_extras = has_extras(text);
-    let mut at = 0;
-    let mut stretch_end = 0;
-    let mut numbers = Numbers::OfLines;
-    let mut count = 0;
-    let mut attempts = 0usize;
-    while at < text.len() {
-        if at >= stretch_end {
-            stretch_end = at + stretch_length(&text[at..]);
-            numbers = numbers_of(&text[at..stretch_end], has_extras);
-        }
-        let attempt = first_attempt(&text[at..stretch_end], numbers, attempts);
-        let (more, end) = put_attempt(text, at, &attempt, lines, count);
-        count = more;
-        at = end;
-        attempts = attempts.saturating_add(1);
-    }
-    let status = if count > lines.len() {
+    let read = put_attempts(text, text.len(), Progress::nothing(), lines);
+    let status = if read.lines > lines.len() {
         Status::NoRoom
     } else {
         Status::Done
     };
     TextAnswer {
         status: status.number(),
-        lines: count,
-        attempts,
+        lines: read.lines,
+        attempts: read.attempts,
     }
 }

@@ -8,7 +8,7 @@ ghost use Rattle.niss_text.specs.declared.sights.Sight.TheVariants.{Small, Joine
 use crate::body::goes_on_behind_scramble;
 use crate::forms::has_bracket;
 use crate::line::Line;
-use crate::marks::{defines_mark, ends_with_times, is_mark, says_times};
+use crate::marks::{defined_mark, is_mark, times_at_end, times_said};
 use crate::sights::{Sight, first_seen, is_letter};
 use crate::text_line::{LineKind, TextLine};
 use crate::word::has_three_moves;
@@ -151,14 +151,14 @@ fn doubt_of_step(text: &[u8], told: &TextLine, slashes: usize, has_solution: boo
     if !has_solution {
         return (Doubt::SeveralSolutions, told.moves);
     }
-    if says_times(&text[slashes..told.end]) {
-        return (Doubt::Repetition, slashes);
+    if let Some(at) = times_said(&text[slashes..told.end]) {
+        return (Doubt::Repetition, slashes + at);
     }
-    if ends_with_times(&text[told.moves..told.comment]) {
-        return (Doubt::Repetition, told.moves);
+    if let Some(at) = times_at_end(&text[told.moves..told.comment]) {
+        return (Doubt::Repetition, told.moves + at);
     }
-    if defines_mark(&text[told.begin..told.moves]) {
-        return (Doubt::Insertion, told.begin);
+    if let Some(at) = defined_mark(&text[told.begin..told.moves]) {
+        return (Doubt::Insertion, told.begin + at);
     }
     if is_mark(&text[told.comment..slashes]) {
         return (Doubt::Insertion, told.comment);

@@ -139,14 +139,13 @@ pub fn number_length(line: &[u8]) -> usize
     }
 }
 
-/// How many bytes a number has that stands before one of several scrambles, such as `2`, `(2)` or, in a list with such
-/// extras, `E2`; 0 if there is none.
+/// How many bytes a number has that stands before one of several scrambles and isn't the number of a line, such as `2`,
+/// `(2)` or, in a list with such extras, `E2`; 0 if there is none.
 pub fn listed_length(line: &[u8], has_extras: bool) -> usize
     ensures { result ≤ length line.now }
 {
-    let number = number_length(line);
-    if number > 0 || line.is_empty() {
-        return number;
+    if line.is_empty() {
+        return 0;
     }
     let mark = if line[0] == b'(' || (has_extras && line[0] == b'E') {
         1

@@ -157,6 +157,9 @@ fn head_of(line: &[u8], numbers: Numbers) -> (Head, usize)
     if numbers == Numbers::OfLines {
         return (Head::None, 0);
     }
+    if number > 0 {
+        return (Head::Number, number);
+    }
     match listed_length(line, numbers == Numbers::WithExtras) {
         0 => (Head::None, 0),
         listed => (Head::Number, listed),

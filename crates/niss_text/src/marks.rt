@@ -1,5 +1,5 @@
 //! Signs by which solvers have moves made several times, or put into others: of a number of times, and marks.
-ghost use Rattle.std.specs.Prelude.{◌≤◌, ◌<◌, length};
+ghost use Rattle.std.specs.Prelude.{◌≤◌, ◌<◌, length, IfSome};
 
 use crate::sights::is_letter;
 use crate::sign::{is_digit_byte, trimmed};
@@ -15,9 +15,18 @@ fn begins_times(text: &[u8]) -> bool {
     is_before || is_behind
 }
 
-/// Whether a comment, which begins with two slashes if there is one, says that moves are made several times.
-pub fn says_times(comment: &[u8]) -> bool {
-    comment.len() > 2 && begins_times(trimmed(&comment[2..]))
+/// Where a comment, which begins with two slashes if there is one, says that moves are made several times.
+pub fn times_said(comment: &[u8]) -> Option<usize>
+    ensures { IfSome result (λ at. at ≤ length comment.now) }
+{
+    if comment.len() < 3 {
+        return None;
+    }
+    let words = trimmed(&comment[2..]);
+    if !begins_times(words) {
+        return None;
+    }
+    Some(comment.len() - words.len())
 }
 
 /// Where the last word of some moves begins, as blanks part them.
@@ -35,12 +44,17 @@ fn last_word(moves: &[u8]) -> usize
     begin
 }
 
-/// Whether moves end with a turn of the cube that may say how many times they are made, such as `x2`.
-pub fn ends_with_times(moves: &[u8]) -> bool {
+/// Where moves end with a turn of the cube that may say how many times they are made, such as `x2`.
+pub fn times_at_end(moves: &[u8]) -> Option<usize>
+    ensures { IfSome result (λ at. at ≤ length moves.now) }
+{
     let begin = last_word(moves);
     let word = &moves[begin..];
     let is_bracketed = word.len() > 2 && word[0] == b'(';
-    begin > 0 && (begins_times(word) || (is_bracketed && begins_times(&word[1..])))
+    if begin > 0 && (begins_times(word) || (is_bracketed && begins_times(&word[1..]))) {
+        return Some(begin);
+    }
+    None
 }
 
 /// Whether a byte may be the first of a sign that is written among moves as a mark: of no word, and of none that parts
@@ -63,12 +77,14 @@ fn ends_definition(first: u8, last: u8) -> bool {
     }
 }
 
-/// Whether what stands before moves tells a mark at which they belong into others, such as `[1] =` or `*:`. It may have
+/// Where what stands before moves tells a mark at which they belong into others, such as `[1] =` or `*:`. It may have
 /// letters only before `=`.
-pub fn defines_mark(lead: &[u8]) -> bool {
+pub fn defined_mark(lead: &[u8]) -> Option<usize>
+    ensures { IfSome result (λ at. at ≤ length lead.now) }
+{
     let words = trimmed(lead);
     if words.is_empty() || !begins_mark(words[0]) {
-        return false;
+        return None;
     }
     let mut last = b' ';
     let mut has_letters = false;
@@ -78,7 +94,10 @@ pub fn defines_mark(lead: &[u8]) -> bool {
             last = *byte;
         }
     }
-    ends_definition(words[0], last) && (last == b'=' || !has_letters)
+    if !ends_definition(words[0], last) || (last != b'=' && has_letters) {
+        return None;
+    }
+    Some(lead.len() - words.len())
 }
 
 /// Whether all that stands after moves is a mark at which others belong, such as `*` or `[^]`.

@@ -100,7 +100,7 @@ fn is_inverse(line: &TextLine) -> bool
 }
 
 /// What stands in a text from one place to another, as far as it goes.
-fn part_of(text: &[u8], begin: usize, end: usize) -> &[u8]
+pub fn part_of(text: &[u8], begin: usize, end: usize) -> &[u8]
     ensures is { result.now ≡ slice_range text.now begin end }
     ensures fits { begin + length result.now ≤ usize.MAX }
     ensures long { length result.now ≤ end - begin }

@@ -148,3 +148,18 @@ pub fn scramble_length(text: &[u8], numbers: Numbers, is_whole: bool) -> usize
     }
     text.len()
 }
+
+/// How many bytes of a text stand before the next scramble, if one stands before it too: that has a word for its head,
+/// or is whole.
+pub fn length_behind_scramble(text: &[u8]) -> usize
+    ensures { result ≤ length text.now }
+{
+    let mut rest = text;
+    while !rest.is_empty() {
+        if next_at(rest, Numbers::OfLines, false) == Next::Begins {
+            break;
+        }
+        rest = &rest[whole_length(rest)..];
+    }
+    text.len() - rest.len()
+}

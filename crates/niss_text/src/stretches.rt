@@ -2,11 +2,12 @@
 //! scrambles of one apart.
 ghost use Rattle.std.specs.Prelude.{◌≤◌, ◌<◌, length};
 
-use crate::forms::is_parted;
+use crate::forms::{is_parted, line_length};
 use crate::line::{
     Head, Line, Numbers, begins_with_head, begins_with_number, first_line, whole_length,
 };
 use crate::sign::trimmed;
+use crate::words::{Wanted, says};
 
 /// Whether a text has a line that begins the extras of a sheet: E2 is a move too, but not beside E1, which is none.
 pub fn has_extras(text: &[u8]) -> bool {
@@ -71,6 +72,22 @@ fn is_marked(head: &[u8]) -> bool {
     head.iter().any(|byte| *byte == b'#' || *byte == b':')
 }
 
+/// Whether a line with a number in front of it says that it is a step.
+fn has_numbered_step(text: &[u8], numbers: Numbers) -> bool {
+    let mut rest = text;
+    while !rest.is_empty() {
+        // few lines name a step: the others aren't read
+        if says(&rest[..line_length(rest)], Wanted::Step) {
+            let line = first_line(rest, numbers);
+            if line.head_kind == Head::Number && line.is_step {
+                return true;
+            }
+        }
+        rest = &rest[whole_length(rest)..];
+    }
+    false
+}
+
 /// Whether the numbers in front of lines tell scrambles apart: two at least have moves, or one that has a sign that no
 /// list has; no moves are before the first, and none but the first says that it is a step.
 fn are_listed(text: &[u8], numbers: Numbers) -> bool {
@@ -78,11 +95,11 @@ fn are_listed(text: &[u8], numbers: Numbers) -> bool {
     let mut is_headed = false;
     let mut is_open = false;
     let mut is_one = false;
-    let mut own = 0u8;
+    let mut has_own = false;
     while !rest.is_empty() {
         let line = first_line(rest, numbers);
         let is_number = line.head_kind == Head::Number;
-        if is_number && own > 0 && line.is_step {
+        if is_number && has_own && line.is_step {
             return false;
         }
         is_headed = is_headed || is_number;
@@ -91,13 +108,16 @@ fn are_listed(text: &[u8], numbers: Numbers) -> bool {
         if line.is_moves && !is_headed {
             return false;
         }
+        rest = &rest[whole_length(rest)..];
         if line.is_moves && is_open {
-            own = if own == 0 { 1 } else { 2 };
+            if has_own {
+                return !has_numbered_step(rest, numbers);
+            }
+            has_own = true;
             is_open = false;
         }
-        rest = &rest[whole_length(rest)..];
     }
-    own > 1 || (own == 1 && is_one)
+    has_own && is_one
 }
 
 /// Whether a line of a text may begin with a number that tells a scramble from others.

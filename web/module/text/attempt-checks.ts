@@ -1,10 +1,9 @@
 // What `check` says of each attempt of a text, where faults and forms stand in the text, and what makes one doubt the
 // reading of an attempt that isn't solved.
 import {
-  ANOTHER_SCRAMBLE, A_PART, WHICH_SCRAMBLE, attemptOf, ofEachAttempt, withoutPlaces, type Attempt, type AttemptDoubt,
-  type FoundAttempt,
+  ANOTHER_SCRAMBLE, A_PART, AttemptReader, WHICH_SCRAMBLE, attemptOf, ofEachAttempt, withoutPlaces, type Attempt,
+  type AttemptDoubt, type FoundAttempt,
 } from "./attempts.js";
-import { foundInPart, knownParts, type KnownPart } from "./known.js";
 import { refusalOfTwo, rewritten } from "../engine/line-calls.js";
 import { STATUS } from "../engine/status.js";
 import { CHECK_ANSWER } from "../shared/layout.js";
@@ -12,7 +11,7 @@ import { formPlacesOf, type FormPlace } from "./tokens.js";
 import { unitOf, type PlainLine, type TextPlace, type TextPlaces } from "./written.js";
 import type { OfTwo, Seen } from "../calls/replies.js";
 import type { Instance } from "../engine/instance.js";
-import type { TextInMemory } from "./text-calls.js";
+import type { KnownPart, TextInMemory } from "./text-calls.js";
 
 /** Forms of a solution as `formPlaces` tells them, and where they stand in the text. */
 export type FormInText = Pick<FormPlace, "text" | "forms"> & { place: TextPlace };
@@ -108,20 +107,20 @@ function isSame(instance: Instance, scramble: string, other: string) {
 const changed = ({ attempt, lines }: FoundAttempt, fields: Partial<Attempt>): FoundAttempt =>
   ({ attempt: { ...attempt, ...fields }, lines });
 
-/** What is told of a part of a text of solutions, which is kept in memory. */
+/** What is told of the attempts of a part of a text of solutions, which is kept in memory. */
 function seenPart(
-  checks: Checks, { scramble: at, begin, name }: KnownPart, [first, ...others]: FoundAttempt[], scrambles: string[],
+  checks: Checks, { scramble: at, begin }: KnownPart, [first, ...others]: FoundAttempt[], scrambles: string[],
   text: TextInMemory,
 ): SeenAttempt {
   const { places } = text.written;
   if (at === null) {
-    const doubt: AttemptDoubt = { reason: WHICH_SCRAMBLE, place: places.of(begin) };
+    const doubt: AttemptDoubt = { reason: WHICH_SCRAMBLE, place: places.of(text.written.unit(begin)) };
     return { attempt: { ...first.attempt, doubt }, seen: null, place: null, forms: [], doubt };
   }
   // who writes the scramble too says nothing else by it
   const isWritten = others.length === 1 && first.attempt.solution === null
     && isSame(checks.instance, scrambles[at], others[0].attempt.scramble.line);
-  if (isWritten) return seenAttempt(checks, changed(others[0], { name }), text);
+  if (isWritten) return seenAttempt(checks, changed(others[0], { name: first.attempt.name }), text);
   const scramble = withoutPlaces(scrambles[at]);
   if (others.length === 0) return seenAttempt(checks, changed(first, { scramble }), text);
   const doubt: AttemptDoubt = { reason: ANOTHER_SCRAMBLE, place: places.of(others[0].attempt.scramble.places[0]) };
@@ -130,18 +129,18 @@ function seenPart(
 
 /** The solutions in a text of known scrambles, one for each, and then what is no such solution. */
 export function seenSolutions(instance: Instance, text: TextInMemory, scrambles: string[]): SeenAttempt[] {
-  // its lines are read before its memory is taken for others
-  const parts = knownParts(instance, text, scrambles.length);
+  const parts = text.knownParts(scrambles.length);
   const checks = new Checks(instance);
+  const reader = new AttemptReader(text);
   const withoutLines = (scramble: string) => ({ attempt: attemptOf(withoutPlaces(scramble)), lines: [] });
-  const told = scrambles.map((scramble) => seenAttempt(checks, withoutLines(scramble), text));
-  const others: SeenAttempt[] = [];
-  for (const part of parts) {
-    const own = part.inMemory();
-    const found = foundInPart(own, part.name);
-    const seen = own.kept(() => seenPart(checks, part, found, scrambles, own));
-    if (part.scramble === null) others.push(seen);
-    else told[part.scramble] = seen;
-  }
-  return [...told, ...others];
+  return text.kept(() => {
+    const told = scrambles.map((scramble) => seenAttempt(checks, withoutLines(scramble), text));
+    const others: SeenAttempt[] = [];
+    for (const part of parts) {
+      const seen = seenPart(checks, part, reader.foundInPart(part), scrambles, text);
+      if (part.scramble === null) others.push(seen);
+      else told[part.scramble] = seen;
+    }
+    return [...told, ...others];
+  });
 }

@@ -1,7 +1,7 @@
 // What solvers write down of their attempts: scrambles, each with the steps of a solution and candidates beside it, put
 // together of what the module tells of each line. Nothing of it is called at fault here: what is no line of moves is at
 // fault where it is used.
-import { MOVES_OF, type TextInMemory, type TextLine } from "./text-calls.js";
+import { MOVES_OF, type KnownPart, type TextInMemory, type TextLine } from "./text-calls.js";
 import type { PlainLine, TextPlace, WrittenText } from "./written.js";
 
 /** A way that was tried: its steps, these in one, and what is said of it on lines of their own. */
@@ -41,7 +41,7 @@ export type Attempt = {
 export type FoundAttempt = { attempt: Attempt; lines: TextLine[] };
 
 /** What a line is, by the module's numbers. */
-export const LINE_KIND = { blank: 0, before: 1, scramble: 2, step: 3, note: 4 };
+const LINE_KIND = { blank: 0, before: 1, scramble: 2, step: 3, note: 4 };
 
 /** @returns one that has no place in the text */
 export const withoutPlaces = (line: string): PlainLine => ({ line, places: [], leftOut: [] });
@@ -52,7 +52,7 @@ export const attemptOf = (scramble: PlainLine): Attempt => ({
 });
 
 /** Runs of lines, of which each goes on the one before it. */
-export function inRuns(lines: TextLine[], goesOn: (line: TextLine, before: TextLine) => boolean): TextLine[][] {
+function inRuns(lines: TextLine[], goesOn: (line: TextLine, before: TextLine) => boolean): TextLine[][] {
   const runs: TextLine[][] = [];
   lines.forEach((line, at) => {
     if (at > 0 && goesOn(line, lines[at - 1])) runs[runs.length - 1].push(line);
@@ -62,10 +62,10 @@ export function inRuns(lines: TextLine[], goesOn: (line: TextLine, before: TextL
 }
 
 /** @returns those of each attempt */
-export const byAttempt = (lines: TextLine[]): TextLine[][] =>
+const byAttempt = (lines: TextLine[]): TextLine[][] =>
   inRuns(lines, ({ attempt }, before) => attempt === before.attempt);
 
-export const hasScramble = (lines: TextLine[]) => lines.some(({ kind }) => kind === LINE_KIND.scramble);
+const hasScramble = (lines: TextLine[]) => lines.some(({ kind }) => kind === LINE_KIND.scramble);
 
 const isOfStep = ({ kind }: TextLine) => kind === LINE_KIND.step;
 
@@ -130,6 +130,18 @@ export class AttemptReader {
   /** @param lines of an attempt */
   found(lines: TextLine[]): FoundAttempt {
     return { attempt: this.#attempt(lines), lines };
+  }
+
+  /** @returns those among some lines that have a scramble */
+  foundIn(lines: TextLine[]): FoundAttempt[] {
+    return byAttempt(lines).filter(hasScramble).map((own) => this.found(own));
+  }
+
+  /** What stands in a part of a text of solutions: first what has no scramble there, then what has one of its own. */
+  foundInPart({ name: [begin, end], solution, others }: KnownPart): FoundAttempt[] {
+    const { attempt, lines } = this.found(solution);
+    const name = this.#written.part(begin, end);
+    return [{ attempt: { ...attempt, name }, lines }, ...this.foundIn(others)];
   }
 
   #attempt(lines: TextLine[]): Attempt {

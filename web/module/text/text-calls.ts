@@ -1,5 +1,7 @@
 // The calls of the module that read text as solvers write it, which stands in its memory meanwhile.
-import { MOVES_PART, PART_ANSWER, PLAIN_ANSWER, TEXT_ANSWER, TEXT_LINE } from "./text-layout.js";
+import {
+  KNOWN_ANSWER, KNOWN_PART, MOVES_PART, PART_ANSWER, PLAIN_ANSWER, TEXT_ANSWER, TEXT_LINE,
+} from "./text-layout.js";
 import { aligned } from "../engine/memory.js";
 import { STATUS } from "../engine/status.js";
 import type { Exports, Instance } from "../engine/instance.js";
@@ -41,6 +43,12 @@ export class TextLine {
  */
 export type Writing = (exports: Exports, text: bigint[], rooms: bigint[]) => undefined;
 
+/** What stands in a text of solutions under a head, or in a block if it has no heads: which of the scrambles it is of,
+ * from 0, or null if that can't be told; its first byte; its head; and its lines: those of the solution, and others. */
+export type KnownPart = {
+  scramble: number | null; begin: number; name: [begin: number, end: number]; solution: TextLine[]; others: TextLine[];
+};
+
 /** The kind of a blank line, or of a head alone, of one of the scramble, and of a step, by the module's numbers. */
 const BLANK = 0;
 const OF_SCRAMBLE = 2;
@@ -49,10 +57,11 @@ const OF_STEP = 3;
 /** Of which of some lines moves are asked for, by the module's numbers. */
 export const MOVES_OF = { scramble: 0, steps: 1, solution: 2, eachStep: 3 };
 
-/** Which lines have such, in the same order. */
-const IS_WANTED: ((line: TextLine) => boolean)[] = [
-  ({ kind }) => kind === OF_SCRAMBLE, ({ kind }) => kind === OF_STEP,
-  ({ kind, isSolution }) => kind === OF_STEP && isSolution, ({ kind }) => kind === OF_STEP,
+/** Which lines have such, in the same order, by what is told and where that of a line stands. */
+const isStepLine = (told: Uint8Array, at: number) => LINE_READ.kind(told, at) === OF_STEP;
+const IS_WANTED: ((told: Uint8Array, at: number) => boolean)[] = [
+  (told, at) => LINE_READ.kind(told, at) === OF_SCRAMBLE, isStepLine,
+  (told, at) => isStepLine(told, at) && LINE_READ.solution(told, at) === 1, isStepLine,
 ];
 
 /** The bytes that end a line, two of which may end one together. */
@@ -129,7 +138,7 @@ export class TextInMemory {
   /** where other memory begins */ #free: number;
   /** so many bytes have place that are written of it, if it has no odd apostrophes */ #room: number;
   /** how many lines it has */ #count = 0;
-  /** those that aren't blank, or have a head */ #told: TextLine[] = [];
+  /** what is told of each */ #told = new Uint8Array(0);
   /** the moves of all lines, by whose they are */ #moves: Moves[] = [];
 
   constructor(instance: Instance, written: WrittenText) {
@@ -157,27 +166,64 @@ export class TextInMemory {
 
   /** @returns all but the blank ones without a head */
   lines(): TextLine[] {
-    const { memory } = this.#instance;
-    const count = this.#tellLines();
+    const room = this.#reached(TEXT_LINE.bytes, 0);
+    const lines = [BigInt(this.#lines), BigInt(room)];
+    this.#instance.call((exports) => exports.nissy_text_lines(...this.#handedOver(), ...lines));
+    this.#keep(this.#instance.answered(TEXT_ANSWER.read.lines));
+    return this.#between(0, this.#count);
+  }
+
+  /** The parts of a text that has only solutions, of so many scrambles. */
+  knownParts(scrambles: number): KnownPart[] {
+    const room = this.#reached(TEXT_LINE.bytes + KNOWN_PART.bytes, OF_PLACE * scrambles);
+    const parts = this.#lines + room * TEXT_LINE.bytes;
+    const counts = parts + room * KNOWN_PART.bytes;
+    const rooms = [this.#lines, room, parts, room, counts, scrambles].map(BigInt);
+    this.#instance.call((exports) => exports.nissy_known_lines(...this.#handedOver(), ...rooms));
+    const count = this.#instance.answered(KNOWN_ANSWER.read.parts);
+    const told = this.#instance.memory.copy(parts, count * KNOWN_PART.bytes);
+    this.#keep(this.#instance.answered(KNOWN_ANSWER.read.lines));
+    return Array.from({ length: count }, (_, nth) => this.#knownPart(told, nth * KNOWN_PART.bytes, scrambles));
+  }
+
+  #knownPart(told: Uint8Array, at: number, scrambles: number): KnownPart {
+    const { scramble, begin, nameBegin, nameEnd, firstLine, solutionEnd, endLine } = KNOWN_PART.read;
+    const of = scramble(told, at);
+    return {
+      // a great number says of none
+      scramble: of < scrambles ? of : null,
+      begin: begin(told, at),
+      name: [nameBegin(told, at), nameEnd(told, at)],
+      solution: this.#between(firstLine(told, at), solutionEnd(told, at)),
+      others: this.#between(solutionEnd(told, at), endLine(told, at)),
+    };
+  }
+
+  /** Takes so much memory for each line, and so much more.
+   * @returns for how many lines */
+  #reached(ofLine: number, more: number): number {
+    const room = this.#mostLines();
+    this.#instance.memory.reach(this.#lines + room * ofLine + more);
+    return room;
+  }
+
+  /** Keeps what was told of so many lines. */
+  #keep(count: number) {
     this.#count = count;
     this.#free = aligned(this.#lines + count * TEXT_LINE.bytes);
     this.#room = this.#written.bytes.length + OF_LINE * count;
-    const told = memory.copy(this.#lines, count * TEXT_LINE.bytes);
-    this.#told = [];
-    for (let nth = 0, at = 0; nth < count; nth += 1, at += TEXT_LINE.bytes) {
-      const isTold = LINE_READ.kind(told, at) !== BLANK || LINE_READ.headed(told, at) === 1;
-      if (isTold) this.#told.push(new TextLine(told, nth));
-    }
-    return this.#told;
+    this.#told = this.#instance.memory.copy(this.#lines, count * TEXT_LINE.bytes);
   }
 
-  /** @returns of how many lines the module tells */
-  #tellLines(): number {
-    const room = this.#mostLines();
-    this.#instance.memory.reach(this.#lines + room * TEXT_LINE.bytes);
-    const lines = [BigInt(this.#lines), BigInt(room)];
-    this.#instance.call((exports) => exports.nissy_text_lines(...this.#handedOver(), ...lines));
-    return this.#instance.answered(TEXT_ANSWER.read.lines);
+  /** @returns those of some lines that aren't blank, or have a head */
+  #between(first: number, behind: number): TextLine[] {
+    const told = this.#told;
+    const lines: TextLine[] = [];
+    for (let nth = first, at = first * TEXT_LINE.bytes; nth < behind; nth += 1, at += TEXT_LINE.bytes) {
+      const isTold = LINE_READ.kind(told, at) !== BLANK || LINE_READ.headed(told, at) === 1;
+      if (isTold) lines.push(new TextLine(told, nth));
+    }
+    return lines;
   }
 
   /** @returns how many lines the text has at most */
@@ -212,10 +258,10 @@ export class TextInMemory {
   }
 
   /** @returns how many lines are such before each one, and before the end */
-  #before(isWanted: (line: TextLine) => boolean): Uint32Array {
+  #before(isWanted: (told: Uint8Array, at: number) => boolean): Uint32Array {
     const before = new Uint32Array(this.#count + 1);
-    for (const line of this.#told) if (isWanted(line)) before[line.nth + 1] = 1;
-    for (let nth = 0; nth < this.#count; nth += 1) before[nth + 1] += before[nth];
+    for (let nth = 0; nth < this.#count; nth += 1)
+      before[nth + 1] = before[nth] + Number(isWanted(this.#told, nth * TEXT_LINE.bytes));
     return before;
   }
 

@@ -8,4 +8,8 @@ export const TEXT_LINE = struct({
 });
 export const MOVES_PART = struct({ begin: 8, end: 8, leftOut: 1 });
 export const TEXT_ANSWER = struct({ status: 1, lines: 8, attempts: 8 });
+export const KNOWN_PART = struct({
+  scramble: 8, begin: 8, nameBegin: 8, nameEnd: 8, firstLine: 8, solutionEnd: 8, endLine: 8,
+});
+export const KNOWN_ANSWER = struct({ status: 1, lines: 8, parts: 8 });
 export const PART_ANSWER = struct({ status: 1, how: 1, first: 1, last: 1, begin: 8 });

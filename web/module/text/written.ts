@@ -123,30 +123,17 @@ export const placeOf = (
 ): TextPlace | null =>
   (character === null ? null : new TextPlaces(text).of(unitOf(character, plain)));
 
-/** A text in bytes and in units, or a part of one, of which the units are those of the whole. */
+/** A text in bytes and in units. */
 export class WrittenText {
   bytes: Uint8Array;
   #text: string;
   /** Null if each byte is a unit. */ #units: Uint32Array | null;
-  /** Null until one is asked for. */ #places: TextPlaces | null;
-  #shift: number;
+  /** Null until one is asked for. */ #places: TextPlaces | null = null;
 
-  /** @param whole where the part is in the whole */
-  constructor(
-    text: string, { places, shift }: { places: TextPlaces | null; shift: number } = { places: null, shift: 0 },
-  ) {
+  constructor(text: string) {
     this.#text = text;
-    this.#places = places;
-    this.#shift = shift;
     this.bytes = encoded(text);
     this.#units = this.bytes.length === text.length ? null : unitsOf(this.bytes);
-  }
-
-  /** What stands from one byte to another, with another text before it. */
-  behind(before: string, begin: number, end: number) {
-    const from = this.unit(begin);
-    const whole = { places: this.places, shift: from - before.length };
-    return new WrittenText(before + this.#text.slice(from, this.unit(end)), whole);
   }
 
   /** The places of its units. */
@@ -157,16 +144,12 @@ export class WrittenText {
   /** @param byte of the text, or its end
    * @returns its unit */
   unit(byte: number): number {
-    return this.#own(byte) + this.#shift;
-  }
-
-  #own(byte: number) {
     return this.#units === null ? byte : this.#units[byte];
   }
 
   /** What stands from one byte to another. */
   cut(begin: number, end: number) {
-    return this.#text.slice(this.#own(begin), this.#own(end));
+    return this.#text.slice(this.unit(begin), this.unit(end));
   }
 
   /** The same without white space around it. */
@@ -184,7 +167,7 @@ export class WrittenText {
       if (unitsFrom(bytes[at]) === 2) units.push(unit + 1);
     }
     // half of a pair stays in the line as it stands in the text
-    const asWritten = (_: string, at: number) => this.#text[units[at] - this.#shift];
+    const asWritten = (_: string, at: number) => this.#text[units[at]];
     return { line: textIn(bytes).replace(NO_CHARACTER, asWritten), places: units };
   }
 }

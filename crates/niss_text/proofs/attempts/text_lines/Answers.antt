@@ -1,28 +1,29 @@
-use Rattle.std.proofs.Common.{◌≡◌, length, refl, ◌∙◌, arith}
-use Rattle.std.proofs.lemmas.Grind.{common_steps}
-use Rattle.niss_text.proofs.LineLemmas.{covers_none, counts_none, more_behind}
+use Rattle.std.proofs.Common.{◌≡◌, ℕ, List, take, length, subst, sym, arith}
+use Rattle.niss_text.specs.Lines.{Covers, Counts}
+use Rattle.niss_text.proofs.LineLemmas.{covers_none, counts_none}
+use Rattle.niss_text.specs.declared.text_line.TextLine.{TextLine}
 use Rattle.niss_text.proofs.attempts.text_lines.Goals as goal
 
-pub loop-at-init : goal.loop-at-init
-loop-at-init c = record {
-  here = omega arith;
-  within = omega arith;
-  few = omega arith;
-  covers = λ room. covers_none c.args.text.now 0;
-  counts = counts_none c.args.text.now 0;
-  behind = refl;
-}
+pub returns-clause-covers : goal.returns-clause-covers
+returns-clause-covers c = λ room.
+    let text : List ℕ = c.args.text.now in
+    let lines : List TextLine = c.args.lines.now in
+    let told = c.put_attempts-read.ensures in
+    let same : length c.put_attempts-read.new.lines ≡ length lines = c.put_attempts-read.auto.lines in
+    let none : 0 ≡ c.nothing.result.lines = sym c.nothing.ensures.1 in
+    let begin : 0 ≡ c.nothing.result.at = sym c.nothing.ensures.0 in
+    let begun : Covers text 0 (take c.nothing.result.lines lines) c.nothing.result.at =
+    subst (λ (n : ℕ). Covers text 0 (take n lines) c.nothing.result.at) none (subst (λ (n : ℕ). Covers text 0 (take 0 lines) n) begin (covers_none text 0)) in
+    let ends : c.put_attempts-read.result.at ≡ length text = omega (arith, told.further.0, told.further.1.1) in
+    subst (λ (n : ℕ). Covers text 0 (take c.put_attempts-read.result.lines c.put_attempts-read.new.lines) n) ends (told.covers begun (omega (arith, room, same)))
 
-pub loop-at-preserved : goal.loop-at-preserved
-loop-at-preserved c =
-    let inv = c.loop-at.invariant in
-    let told = c.put_attempt-more.ensures in
-    let same : length c.put_attempt-more.new.lines ≡ length c.loop-at.lines = c.put_attempt-more.auto.lines in
-    record {
-      here = told.further.1;
-      within = grind (arith, common_steps);
-      few = told.more.1;
-      covers = λ room. told.covers (inv.covers (omega (arith, room, same, told.more.0))) room;
-      counts = told.counts inv.counts;
-      behind = told.behind ∙ more_behind c.loop-at.lines c.args.lines.now c.loop-at.count c.put_attempt-more.result.0 told.more.0 inv.behind;
-    }
+pub returns-clause-counts : goal.returns-clause-counts
+returns-clause-counts c =
+    let text : List ℕ = c.args.text.now in
+    let told = c.put_attempts-read.ensures in
+    let none : 0 ≡ c.nothing.result.lines = sym c.nothing.ensures.1 in
+    let begin : 0 ≡ c.nothing.result.at = sym c.nothing.ensures.0 in
+    let begun : Counts text 0 c.nothing.result.lines c.nothing.result.at =
+    subst (λ (n : ℕ). Counts text 0 n c.nothing.result.at) none (subst (λ (n : ℕ). Counts text 0 0 n) begin (counts_none text 0)) in
+    let ends : c.put_attempts-read.result.at ≡ length text = omega (arith, told.further.0, told.further.1.1) in
+    subst (λ (n : ℕ). Counts text 0 c.put_attempts-read.result.lines n) ends (told.counts begun)

@@ -1,6 +1,5 @@
-use Rattle.std.proofs.Common.{◌≡◌, ◌+◌, true, length, take, refl, sym, arith}
+use Rattle.std.proofs.Common.{◌≡◌, true, take, refl, sym, arith}
 use Rattle.std.proofs.lemmas.List.{length-take-le}
-use Rattle.niss_text.specs.Moves.{gap_after}
 use Rattle.niss_text.specs.declared.piece.Place.TheVariants.{Among}
 use Rattle.niss_text.proofs.PlainLemmas.{later_behind}
 use Rattle.niss_text.proofs.MovesLemmas.{one_line}

@@ -1,0 +1,19 @@
+use Rattle.std.proofs.Common.{◌≡◌, ◌-◌, ◌≤◌, length, take, drop}
+use Rattle.niss_text.specs.Lines.{Covers, Counts, Takes}
+use Rattle.niss_text.proofs.attempts.put_attempts.Given as goal
+
+abbrev pub invariant-loop-at : goal.invariant-loop-at
+invariant-loop-at l = record {
+  here : l.at ≤ length l.text;
+  begun : l.fn.so_far.at ≤ l.at;
+  within : l.stretch_end ≤ l.end;
+  more : l.fn.so_far.lines ≤ l.count;
+  few : l.count ≤ l.at;
+  covers : Covers l.text 0 (take l.fn.so_far.lines l.initial.lines) l.fn.so_far.at → l.count ≤ length l.lines → Covers l.text 0 (take l.count l.lines) l.at;
+  takes : Takes l.text 0 (take l.fn.so_far.lines l.initial.lines) l.fn.so_far.at → l.count ≤ length l.lines → Takes l.text 0 (take l.count l.lines) l.at;
+  counts : Counts l.text 0 l.fn.so_far.lines l.fn.so_far.at → Counts l.text 0 l.count l.at;
+  behind : drop l.count l.lines ≡ drop l.count l.initial.lines;
+}
+
+abbrev pub decreases-loop-at : goal.decreases-loop-at
+decreases-loop-at l = length l.text - l.at

@@ -1,0 +1,171 @@
+//! The parts of a text that has only solutions, of scrambles that are known: what stands under each head, or in each block
+//! if the text has no heads.
+ghost use Rattle.std.specs.Prelude.{◌≤◌, ◌<◌, length};
+
+use crate::moves::part_of;
+use crate::sights::is_letter;
+use crate::sign::is_digit_byte;
+use crate::text_line::{LineKind, TextLine};
+
+/// A number with one more digit.
+fn with_digit(number: usize, digit: u8) -> usize {
+    number
+        .saturating_mul(10)
+        .saturating_add(usize::from(digit.saturating_sub(b'0')))
+}
+
+/// The number of a head, if it has one: extras, such as `E1`, have others.
+fn number_in(head: &[u8]) -> Option<usize> {
+    let mut number = None;
+    let mut has_letters = false;
+    for byte in head {
+        if is_digit_byte(*byte) {
+            number = Some(with_digit(number.unwrap_or(0), *byte));
+        } else if number.is_some() || (!has_letters && matches!(*byte, b'e' | b'E')) {
+            return number;
+        }
+        has_letters = has_letters || is_letter(*byte);
+    }
+    number
+}
+
+/// The number of the head of a line, if it has one with a number.
+fn number_of(text: &[u8], line: &TextLine) -> Option<usize> {
+    if line.is_headed == 0 {
+        return None;
+    }
+    number_in(part_of(text, line.begin, line.head_end))
+}
+
+/// Whether a line has moves.
+fn has_moves(line: &TextLine) -> bool {
+    line.is_a(LineKind::Scramble) || line.is_a(LineKind::Step)
+}
+
+/// Whether one of some lines has a head.
+pub fn has_head(lines: &[TextLine]) -> bool {
+    lines.iter().any(|line| line.is_headed != 0)
+}
+
+/// What is seen of the lines of a part.
+#[derive(Clone, Copy)]
+pub struct Part {
+    /// Where its first line begins that isn't blank.
+    pub begin: usize,
+    /// Where what is under its last head begins: at the next line that isn't blank.
+    pub body: usize,
+    /// Where the next part begins, or the text ends.
+    pub end: usize,
+    /// Its first head, and the number of that.
+    pub name_begin: usize,
+    pub name_end: usize,
+    pub number: Option<usize>,
+    /// The first number of a head.
+    first_number: Option<usize>,
+    has_head: bool,
+    has_moves: bool,
+    is_begun: bool,
+    has_body: bool,
+}
+
+impl Part {
+    /// Before its first line.
+    fn nothing() -> Part {
+        Part {
+            begin: 0,
+            body: 0,
+            end: 0,
+            name_begin: 0,
+            name_end: 0,
+            number: None,
+            first_number: None,
+            has_head: false,
+            has_moves: false,
+            is_begun: false,
+            has_body: false,
+        }
+    }
+
+    /// Whether there is something in it.
+    pub fn is_something(&self) -> bool {
+        self.has_head || self.has_moves
+    }
+
+    /// Whether a line begins another part: if it has a head after moves, or one with another number; without heads in
+    /// the text if it is blank.
+    fn is_ended_by(&self, line: &TextLine, number: Option<usize>, is_by_blocks: bool) -> bool {
+        if is_by_blocks {
+            return self.is_begun && line.is_a(LineKind::Blank);
+        }
+        let is_other = self.first_number.is_some()
+            && number.is_some()
+            && number != self.first_number;
+        line.is_headed != 0 && (self.has_moves || is_other)
+    }
+
+    /// With one more line, of whose head this is the number.
+    fn with(self, line: &TextLine, number: Option<usize>) -> Part {
+        let is_blank = line.is_a(LineKind::Blank);
+        if line.is_headed != 0 {
+            return self.with_head(line, number, !is_blank);
+        }
+        if is_blank {
+            return self;
+        }
+        let mut part = self.begun(line);
+        part.has_moves = self.has_moves || has_moves(line);
+        if !self.has_body {
+            part.body = line.begin;
+            part.has_body = true;
+        }
+        part
+    }
+
+    /// After a line that isn't blank.
+    fn begun(self, line: &TextLine) -> Part {
+        Part {
+            begin: if self.is_begun {
+                self.begin
+            } else {
+                line.begin
+            },
+            is_begun: true,
+            ..self
+        }
+    }
+
+    /// With a line that has a head.
+    fn with_head(self, line: &TextLine, number: Option<usize>, has_body: bool) -> Part {
+        let mut part = self.begun(line);
+        if !self.has_head {
+            part.name_begin = line.begin;
+            part.name_end = line.head_end;
+            part.number = number;
+        }
+        part.first_number = self.first_number.or(number);
+        part.has_head = true;
+        part.has_moves = self.has_moves || has_moves(line);
+        part.body = line.head_end;
+        part.has_body = has_body;
+        part
+    }
+}
+
+/// The first part of some lines, and how many of them it has.
+pub fn first_part(text: &[u8], lines: &[TextLine], is_by_blocks: bool) -> (Part, usize)
+    ensures fits { result.1 ≤ length lines.now }
+    ensures some { 0 < length lines.now → 0 < result.1 }
+{
+    let mut part = Part::nothing();
+    let mut rest = lines;
+    while let Some((line, others)) = rest.split_first() {
+        let number = number_of(text, line);
+        if rest.len() < lines.len() && part.is_ended_by(line, number, is_by_blocks) {
+            break;
+        }
+        part = part.with(line, number);
+        rest = others;
+    }
+    part.end = rest.first().map_or(text.len(), |line| line.begin);
+    (part, lines.len() - rest.len())
+}
