@@ -1,6 +1,6 @@
 // The engine in a worker of a browser, and in several.
 import { WorkerPool } from "./workers/pool.js";
-import { WorkerCalls } from "./workers/worker-calls.js";
+import { WorkerCalls } from "./workers/later-calls.js";
 import { listenedTo } from "./workers/worker-queue.js";
 import type { ModuleSource } from "./engine/source.js";
 

@@ -3,7 +3,7 @@ import { readFile } from "node:fs/promises";
 import { Worker } from "node:worker_threads";
 import { Nissy } from "./nissy.js";
 import { WorkerPool } from "./workers/pool.js";
-import { WorkerCalls } from "./workers/worker-calls.js";
+import { WorkerCalls } from "./workers/later-calls.js";
 import type { ModuleSource } from "./engine/source.js";
 import type { NewWorker } from "./workers/worker-queue.js";
 

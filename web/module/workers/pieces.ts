@@ -12,15 +12,13 @@ const MOST_LINES = 4_096;
  * waits for the next one, and none long for the last one of another. */
 const SHORT = 10;
 const LONG = 40;
-
-/** So many times as many lines follow at most. */
+/** So many times as many follow at most. */
 const GROWTH = 4;
 
 /** So many quick lines are worth a piece; of those that are left each worker gets so many pieces or more. */
 const QUICK_LINES = 64;
 const PIECES = 2;
 
-/** The pieces of a request. */
 export class Pieces {
   /** Where each piece begins. */ #begins: number[] = [];
   /** What is told of each line. */ #told: unknown[];
@@ -80,7 +78,6 @@ export class Pieces {
     this.#least = QUICK_LINES;
   }
 
-  /** Takes what a worker's reply to a piece tells. */
   take(at: number, reply: PieceReply) {
     const begin = this.#begins[at];
     const { each } = this.request;
@@ -102,12 +99,8 @@ export class Pieces {
 
   /** Whether all is told that is wanted. */
   areWhole() {
-    return this.#known >= Math.min(this.#wanted, this.#isBegun() ? this.#begins.length : Infinity);
-  }
-
-  /** Whether each line is in a piece. */
-  #isBegun() {
-    return this.#begun === this.request.lines.length && this.#begins.length > 0;
+    const isBegun = this.#begun === this.request.lines.length && this.#begins.length > 0;
+    return this.#known >= Math.min(this.#wanted, isBegun ? this.#begins.length : Infinity);
   }
 
   /** @returns what is told of each line, unless that is thrown */
@@ -116,7 +109,6 @@ export class Pieces {
     return this.#told;
   }
 
-  /** @returns how many lines have their reply */
   progress(): Progress {
     return { done: this.#done, all: this.request.lines.length };
   }

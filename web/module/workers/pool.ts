@@ -7,12 +7,11 @@ import { wholeNumber } from "../shared/bytes.js";
 import { byRank } from "../shared/ways.js";
 import { LaterCalls, unshared, type Ask } from "./later-calls.js";
 import { Pieces } from "./pieces.js";
-import { WorkerQueue, type NewWorker, type SentModule } from "./worker-queue.js";
+import type { NewWorker, SentModule } from "./worker-queue.js";
 import type { BestRequest } from "../calls/requests.js";
 import type { Follow, Progress } from "../calls/signals.js";
 import type { PieceReply } from "./serve.js";
 
-/** The most workers of a pool. */
 const MOST_WORKERS = 1_024;
 
 /** How far all of some requests are. */
@@ -20,13 +19,6 @@ const sumOf = (each: Progress[]): Progress => ({
   done: each.reduce((sum, { done }) => sum + done, 0),
   all: each.reduce((sum: number | null, { all }) => (sum === null || all === null ? null : sum + all), 0),
 });
-
-/** The axes that each request is for: as many as there are workers, so that each soon knows how many orientations it
- * has. A bound is for each axis by itself. */
-function sharesOf(workers: number, { axes, nodes }: BestRequest) {
-  const shares = nodes === Infinity ? Math.min(workers, axes.length) : axes.length;
-  return Array.from({ length: shares }, (_, at) => axes.filter((_, place) => place % shares === at));
-}
 
 /** What is told of all axes together. */
 function joinedBest(replies: BestReply[], request: BestRequest): Best {
@@ -39,10 +31,14 @@ function joinedBest(replies: BestReply[], request: BestRequest): Best {
   return best;
 }
 
-async function repliesOfAxes(workers: number, whole: BestRequest, ask: Ask, tell: Follow): Promise<BestReply[]> {
-  const requests = sharesOf(workers, whole).map((axes) => ({ ...whole, axes }));
-  const progress: Progress[] = requests.map(() => ({ done: 0, all: null }));
-  return Promise.all(requests.map((request, at) => ask(request, (told) => {
+/** Asks for the best of some axes each: in as many requests as there are workers, so that each soon knows how many
+ * orientations it has. A bound is for each axis by itself. */
+function repliesOfAxes(workers: number, whole: BestRequest, ask: Ask, tell: Follow): Promise<BestReply[]> {
+  const { axes, nodes } = whole;
+  const shares = nodes === Infinity ? Math.min(workers, axes.length) : axes.length;
+  const progress = new Array<Progress>(shares).fill({ done: 0, all: null });
+  const shared = progress.map((_, at) => axes.filter((__, place) => place % shares === at));
+  return Promise.all(shared.map((own, at) => ask({ ...whole, axes: own }, (told) => {
     progress[at] = told;
     return tell(sumOf(progress));
   })));
@@ -79,9 +75,8 @@ export class WorkerPool extends LaterCalls<"pool"> {
   /** How many workers there are. */
   readonly size: number;
 
-  /** Engines whose workers are started by the first calls. */
   constructor(workers: number, module: SentModule, newWorker: NewWorker) {
-    super(new WorkerQueue(module, newWorker, workers), async (row, request, ask, tell) => {
+    super(module, newWorker, workers, async (row, request, ask, tell) => {
       if (request.call === "all" && row.one) {
         const pieces = new Pieces(request, workers, row.one);
         await askAll(pieces, ask, tell);
@@ -94,8 +89,7 @@ export class WorkerPool extends LaterCalls<"pool"> {
     this.size = workers;
   }
 
-  /** Starts engines. Rejects with `NoWebAssembly` if the host runs none, and with `EngineMissing` if the workers can't
-   * be started. */
+  /** Starts engines. Rejects as `startBy` of one does. */
   static async startBy(
     workers: number, source: ModuleSource | Promise<ModuleSource>, newWorker: NewWorker,
   ): Promise<WorkerPool> {

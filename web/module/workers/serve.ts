@@ -4,16 +4,10 @@ import type { AllReply } from "../calls/many.js";
 import type { Progress } from "../calls/signals.js";
 import type { Request } from "../calls/requests.js";
 
-/** The first message. */
-export type Beginning = { module: WebAssembly.Module | ArrayBuffer | Uint8Array };
-/** Each later one. */
-export type Question = { id: number; request: Request };
 /** And how long the worker took for it. */
 export type PieceReply = AllReply & { milliseconds: number };
-/** What comes before some answers. */
-export type Progressed = { id: number; progress: Progress };
-export type Answered = { id: number; reply: Reply | PieceReply };
-export type Unanswered = { id: number; error: { name: string; message: string } };
+/** What is told of a message, of which it has one: its reply, what was thrown, or, before some replies, how far it is. */
+export type Told = { id: number; reply: unknown; error: { name: string; message: string }; progress: Progress };
 
 /** What messages come from and go to: a worker itself, or its port in node. */
 export type Port = {
@@ -49,7 +43,7 @@ export function serveBy<Started>(
 
 /** Has an engine answer what comes through a port; of some of a call's lines it says how long they took. */
 export function serve(port: Port) {
-  serveBy(port, (module) => Engine.start(module), (engine, { id, request }: Question) => {
+  serveBy(port, (module) => Engine.start(module), (engine, { id, request }: { id: number; request: Request }) => {
     const begun = performance.now();
     const reply = engine.answer(request, (progress) => port.postMessage({ id, progress }));
     const isPiece = request.call === "all" && request.isPiece;
