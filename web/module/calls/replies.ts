@@ -1,5 +1,5 @@
 // Reads what the engine writes as values, or throws what is wrong.
-import { NissyFault, SearchCut, cutOfAll, faultInLine, withoutTraces } from "../shared/faults.js";
+import { NissyFault, SearchCut, withoutTraces } from "../shared/faults.js";
 import { SEARCH_ANSWER } from "../shared/layout.js";
 import { textIn } from "../shared/utf8.js";
 import { checkFrom, factsFrom } from "./facts-read.js";
@@ -11,17 +11,9 @@ import type { FormInText, SeenAttempt } from "../text/attempt-checks.js";
 import type { Sides, Telling } from "./requests.js";
 import type { TextPlace } from "../text/written.js";
 
-/** What a run returns. */
-export type Answer = {
-  /** The exit status of the program, 0 to 3. */
-  status: number;
-  /** The output. */
-  out: Uint8Array;
-  /** The error text. */
-  err: Uint8Array;
-  /** Whether the output was longer than the greatest room for it; `out` is then a beginning of it. */
-  full: boolean;
-};
+/** What a run returns: the exit status of the program, 0 to 3, its output, and its error text; `full`: whether the
+ * output was longer than the greatest room for it, and `out` is a beginning of it. */
+export type Answer = { status: number; out: Uint8Array; err: Uint8Array; full: boolean };
 
 /** A solution: its moves, and how many turns they are. */
 export type Solution = { moves: string; length: number };
@@ -30,10 +22,8 @@ export type Solution = { moves: string; length: number };
  * Those of a search that was cut begin its list, and `cut` is there. */
 export type Solutions = Solution[] & { readonly more: boolean; readonly nodes: number; cut?: true };
 
-/** Those over both sides. */
 export type SideSolutions = BestStep[] & { cut?: true };
 
-/** What `solve` tells, whether sides are asked for or not. */
 export type SolutionsOn<On extends Sides | undefined> = On extends string ? SideSolutions : Solutions;
 
 /** How many solutions there are: the least length, null if there are none, and at how many positions the search looked.
@@ -48,16 +38,13 @@ export type LineFault = { status: 1; fault: 1 | 2 | 3 | 4 | 5; column: number; c
  */
 export type StartFault = { status: 1; fault: 6; step: string; start: string; text: string };
 
-/** A call that the module refused: a number out of its range, a line that is too long, or too little room. */
-export type Refused = { status: 2 | 3 | 4 };
-
-/** How a call on a line ended that has no value. */
-export type NoValue = LineFault | StartFault | Refused;
+/** How a call on a line ended that has no value: at a fault, or refused for a number out of its range, a line that is
+ * too long, or too little room. */
+export type NoValue = LineFault | StartFault | { status: 2 | 3 | 4 };
 /** Of a call on two lines, of which `line` is at fault: 1, the first, or 2. */
 export type OfTwo = NoValue & { line: number };
 /** The struct of an answer with a value, which stands at a place of some bytes. */
 export type Seen = { status: 0 | 5; answer: Uint8Array; at: number };
-/** Of a call that writes. */
 export type LineReply = { status: 0; out: string } | NoValue;
 export type SolveReply = Seen & { out: string } | NoValue;
 export type SolveBytesReply = Seen & { out: Uint8Array } | NoValue;
@@ -96,20 +83,14 @@ const NAMES_OF_BEST = ["scramble", "moves so far"];
 const BRACKET = "(".charCodeAt(0);
 const ZERO = "0".charCodeAt(0);
 
-function faultIn(reply: LineFault | StartFault): NissyFault {
-  if (reply.fault !== START_FAULT) return new NissyFault(reply.text, reply);
-  const { step, start, text } = reply;
-  return new NissyFault(`${start} ${text}`, { step, start });
-}
-
-/** @param what the line is called
+/** @param part what the line is called, if it is one of two
  * @returns what is wrong */
-function errorIn(reply: NoValue, what = "line"): Error {
+function errorIn(reply: NoValue, part = ""): Error {
   switch (reply.status) {
     case STATUS.fault:
-      return faultIn(reply);
+      return new NissyFault(reply.fault === START_FAULT ? `${reply.start} ${reply.text}` : reply.text, reply, part);
     case STATUS.stopped:
-      return new RangeError(`the ${what} has more bytes than the engine reads`);
+      return new RangeError(`the ${part || "line"} has more bytes than the engine reads`);
     case STATUS.room:
       return new RangeError("there are more solutions than there is room for: ask for fewer");
     default:
@@ -117,15 +98,10 @@ function errorIn(reply: NoValue, what = "line"): Error {
   }
 }
 
-/** What is thrown of one of two lines, which have names. */
-function errorOfTwo(reply: OfTwo, names: readonly string[]): Error {
-  const part = names[reply.line - 1];
-  const error = errorIn(reply, part);
-  return error instanceof NissyFault ? faultInLine(error, reply.line, part) : error;
-}
+const errorOfTwo = (reply: OfTwo, names: readonly string[]) => errorIn(reply, names[reply.line - 1]);
 
 /** @returns the same, which has a value */
-function withValue<Reply extends { status: number }>(reply: Reply): Exclude<Reply, NoValue> {
+export function withValue<Reply extends { status: number }>(reply: Reply): Exclude<Reply, NoValue> {
   if (!hasValue(reply.status)) throw errorIn(reply as unknown as NoValue);
   return reply as Exclude<Reply, NoValue>;
 }
@@ -211,8 +187,9 @@ function attemptCheckIn({ attempt, seen, place, forms, doubt }: SeenAttempt): At
     if (attempt.solution !== null) told.check = checkFrom(seen.answer, seen.at);
     return told;
   }
-  if (seen.status !== STATUS.fault) throw errorOfTwo(seen, NAMES_OF_CHECK);
-  told.fault = new NissyFault(seen.text, seen, NAMES_OF_CHECK[seen.line - 1]);
+  const error = errorOfTwo(seen, NAMES_OF_CHECK);
+  if (!(error instanceof NissyFault)) throw error;
+  told.fault = error;
   return told;
 }
 
@@ -221,22 +198,13 @@ export const attemptChecksIn = (replies: SeenAttempt[]): AttemptCheck[] =>
 
 export function lineAfterIn(reply: LineReply | OfTwo): string {
   if ("out" in reply) return reply.out;
-  throw errorOfBest(reply as OfTwo);
+  throw errorOfTwo(reply as OfTwo, NAMES_OF_BEST);
 }
 
-export function bestIn(reply: BestReply | NoValue, { cut }: { cut: Telling }): Best {
-  if (!("ways" in reply)) throw "line" in reply ? errorOfBest(reply) : errorIn(reply);
-  const best: Best = Object.assign(waysIn(reply.ways), { nodes: reply.nodes });
-  return cutOr(reply.status, cut, best, () => cutOfAll(reply.nodes));
-}
-
-/** What is thrown of a scramble or of the moves so far: also one of too many bytes has the number of its line. */
-const errorOfBest = (reply: OfTwo) => inLine(errorIn(reply), reply.line, NAMES_OF_BEST[reply.line - 1]);
-
-/** What is wrong, with the number of the line in which it is.
- * @param part what a fault calls the line, if not by its number */
-export function inLine(error: unknown, line: number, part?: string) {
-  if (error instanceof NissyFault) return faultInLine(error, line, part);
-  if (error instanceof SearchCut) return new SearchCut(error.count, error.found, line);
-  return error instanceof RangeError ? new RangeError(`line ${line}: ${error.message}`) : error;
+export function bestIn(reply: BestReply, { cut }: { cut: Telling }): Best {
+  if (!("ways" in reply)) throw errorOfTwo(reply, NAMES_OF_BEST);
+  const { nodes } = reply;
+  const best: Best = Object.assign(waysIn(reply.ways), { nodes });
+  // the cut of several searches together, which tells of none of them
+  return cutOr(reply.status, cut, best, () => new SearchCut({ length: null, solutions: 0, nodes }, null));
 }

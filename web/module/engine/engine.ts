@@ -13,22 +13,20 @@ import { runIn } from "./runs.js";
 import { compiled, type ModuleSource } from "./source.js";
 import type { AllReply } from "../calls/many.js";
 import type { CountOfSides, OneReply, SolveBytesReply } from "../calls/replies.js";
-import type { Request, SolveRequest, TextRequest } from "../calls/requests.js";
+import type { Request, RequestOf, SolveRequest } from "../calls/requests.js";
 import type { Follow } from "../calls/signals.js";
 
 export type Reply = OneReply | CountOfSides | AllReply | PlainLine | Attempt[] | SeenAttempt[];
 /** An engine, or what asks one. */
 export type Answering = { answer: (request: Request, tell?: Follow) => any };
 
-type AnswersOf<Asked extends Request> = {
-  [Call in Asked["call"]]:
-    (instance: Instance, request: Extract<Asked, { call: Call }>, tell: Follow) => Reply;
-};
+type OneCall = Exclude<Request["call"], "all">;
+type Answer<Call extends OneCall> = (instance: Instance, request: RequestOf<Call>, tell: Follow) => Reply;
 
-const inMemory = (instance: Instance, { text }: TextRequest) => new TextInMemory(instance, new WrittenText(text));
+const inMemory = (instance: Instance, { text }: { text: string }) => new TextInMemory(instance, new WrittenText(text));
 
 /** How each request is answered. */
-const REPLIES: AnswersOf<Exclude<Request, { call: "all" }>> = {
+const REPLIES: { [Call in OneCall]: Answer<Call> } = {
   invert: (instance, { line }) => rewritten(instance, "nissy_invert", line),
   unniss: (instance, { line }) => rewritten(instance, "nissy_unniss", line),
   cleanup: (instance, { line }) => rewritten(instance, "nissy_cleanup", line),
@@ -50,8 +48,7 @@ const REPLIES: AnswersOf<Exclude<Request, { call: "all" }>> = {
   checkSolutions: (instance, request) => seenSolutions(instance, inMemory(instance, request), request.scrambles),
 };
 
-type Answer = (instance: Instance, request: Request, tell: Follow) => Reply;
-const answerOf = (call: Exclude<Request["call"], "all">) => REPLIES[call] as Answer;
+const answerOf = (call: OneCall) => REPLIES[call] as Answer<any>;
 
 export class Engine {
   #instance: Instance;
@@ -65,7 +62,6 @@ export class Engine {
     return new Engine(module, await WebAssembly.instantiate(module, {}));
   }
 
-  /** What the engine returns. */
   answer(request: Request, tell: Follow = () => {}): Reply {
     const instance = this.#ready();
     if (request.call !== "all") return answerOf(request.call)(instance, request, tell);

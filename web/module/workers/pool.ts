@@ -8,7 +8,7 @@ import { byRank } from "../shared/ways.js";
 import { LaterCalls, unshared, type Ask } from "./later-calls.js";
 import { Pieces } from "./pieces.js";
 import type { NewWorker, SentModule } from "./worker-queue.js";
-import type { BestRequest } from "../calls/requests.js";
+import type { RequestOf } from "../calls/requests.js";
 import type { Follow, Progress } from "../calls/signals.js";
 import type { PieceReply } from "./serve.js";
 
@@ -21,7 +21,7 @@ const sumOf = (each: Progress[]): Progress => ({
 });
 
 /** What is told of all axes together. */
-function joinedBest(replies: BestReply[], request: BestRequest): Best {
+function joinedBest(replies: BestReply[], request: RequestOf<"best">): Best {
   const nodes = replies.reduce((sum, reply) => sum + ("nodes" in reply ? reply.nodes : 0), 0);
   // of all together, which may be cut though no axis is
   const last = nodes > request.nodes ? [{ status: STATUS.cut, ways: new Uint8Array(0), tried: 0, nodes }] : [];
@@ -33,7 +33,7 @@ function joinedBest(replies: BestReply[], request: BestRequest): Best {
 
 /** Asks for the best of some axes each: in as many requests as there are workers, so that each soon knows how many
  * orientations it has. A bound is for each axis by itself. */
-function repliesOfAxes(workers: number, whole: BestRequest, ask: Ask, tell: Follow): Promise<BestReply[]> {
+function repliesOfAxes(workers: number, whole: RequestOf<"best">, ask: Ask, tell: Follow): Promise<BestReply[]> {
   const { axes, nodes } = whole;
   const shares = nodes === Infinity ? Math.min(workers, axes.length) : axes.length;
   const progress = new Array<Progress>(shares).fill({ done: 0, all: null });
