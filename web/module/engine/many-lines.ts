@@ -46,9 +46,6 @@ function joinedLines(lines: Text[]): Text {
   return joinedBytes(lines.flatMap((line) => [typeof line === "string" ? encoded(line) : line, feed]));
 }
 
-/** What is asked of many lines by one call of the module: its name, and what it is given beside lines and answers. */
-type Question = { name: string; first: Given[]; then: Given[] };
-
 /** The replies to lines in turn, up to the first that ends the call. */
 class Replies implements AllReply {
   count = 0;
@@ -87,30 +84,32 @@ class Replies implements AllReply {
   }
 }
 
+/** What is asked of many lines by one call of the module, of a step if it has one. */
+type Question = { name: string; step?: string; given: (lines: Given, answers: Given) => Given[] };
+
 /** Asks the module of a piece. */
-function answerPiece(
-  instance: Instance, { name, first, then }: Question, lines: Text[], step: string, replies: Replies,
-) {
+function answerPiece(instance: Instance, { name, step, given }: Question, lines: Text[], replies: Replies) {
   const { size } = replies;
-  const given = [...first, { text: joinedLines(lines) }, ...then, { rows: lines.length, of: { bytes: size } }];
-  const places = instance.ask(name, given);
+  const all = given({ text: joinedLines(lines) }, { rows: lines.length, of: { bytes: size } });
+  const places = instance.ask(name, all);
   const isWhole = instance.answered(LINES_ANSWER.read.lines) === lines.length;
   if (!isWhole) throw new Error("the module took other lines than it was given");
   // a copy, since the module is asked for the words of a fault, which it may write over them
-  const answers = instance.memory.copy(places[given.length - 1], lines.length * size);
+  const answers = instance.memory.copy(places[all.length - 1], lines.length * size);
   replies.takeAll(answers, (nth) => refusal(instance, lines[nth], step, answers, nth * size));
 }
 
 /** What is asked of many lines at once, or null if each has to be asked by itself: the module has no such call, or the
  * first fault, or the first search that is cut, ends all, so that what is behind it isn't searched. */
 function questionOf(instance: Instance, { each, faults }: AllRequest): Question | null {
-  if (each.call === "facts") return { name: "nissy_facts_lines", first: [], then: [] };
+  if (each.call === "facts") return { name: "nissy_facts_lines", given: (lines, answers) => [lines, answers] };
   if (each.call === "best" || each.call === "check") return null;
   // a step that isn't there is told though there may be no line
-  const tables = instance.tablesOf(each.step);
+  const tables = BigInt(instance.tablesOf(each.step));
   const goesOn = faults === "value" && (each.nodes === Infinity || each.cut === "value");
   if (each.call !== "count" || !goesOn) return null;
-  return { name: "nissy_count_lines", first: [BigInt(tables)], then: boundsOf(each) };
+  const given = (lines: Given, answers: Given) => [tables, lines, ...boundsOf(each), answers];
+  return { name: "nissy_count_lines", step: each.step, given };
 }
 
 /** What is asked of one of many lines. */
@@ -139,10 +138,8 @@ export function answerAll(
   while (replies.count < lines.length && !replies.isOver) {
     const line = lines[replies.count];
     const piece = question === null ? [] : pieceFrom(lines as (Text | null)[], replies.count);
-    const refused = tooLong(line);
-    if (question !== null && piece.length > 0) {
-      answerPiece(instance, question, piece, "step" in each ? each.step : "", replies);
-    } else replies.take(refused ?? answer(askedOfLine(each, line as Text | Pair)));
+    if (question !== null && piece.length > 0) answerPiece(instance, question, piece, replies);
+    else replies.take(tooLong(line) ?? answer(askedOfLine(each, line as Text | Pair)));
   }
   return replies.told;
 }
