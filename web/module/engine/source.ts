@@ -5,8 +5,7 @@ import { NoWebAssembly } from "../shared/faults.js";
 /** What the module can be had from: its bytes, what they are compiled to, or an answer to a request for them. */
 export type ModuleSource = ArrayBuffer | Uint8Array | WebAssembly.Module | Response;
 
-/** The kind of an object by its own name for it, which is the same in each realm: there are as many classes of a
- * name as realms. */
+/** The kind of an object by its own name for it, since each realm has a class of its own. */
 const tagOf = (value: unknown) => Object.prototype.toString.call(value).slice("[object ".length, -1);
 
 async function bodyOf(response: Response): Promise<ArrayBuffer> {

@@ -31,7 +31,7 @@ const POWERS = ["", "2", "'"];
 const TURNS = [..."UDRLFB"].flatMap((face) => POWERS.map((power) => face + power));
 
 /** Turns on a side, of which the last ones that are `free` are quarter turns of either direction, or half turns. */
-export type SideTurns = { turns: string[]; free: number };
+type SideTurns = { turns: string[]; free: number };
 
 function sideAt(bytes: Uint8Array, at: number): SideTurns {
   const begin = at + SIDE_TURNS.at.turns;
@@ -63,7 +63,7 @@ function stepAt(bytes: Uint8Array, at: number): BestStep | null {
 }
 
 /** The way on whose row begins at a place. */
-export function wayAt(bytes: Uint8Array, at: number): BestRow {
+function wayAt(bytes: Uint8Array, at: number): BestRow {
   const eo = stepAt(bytes, at + WAY.at.eo);
   const dr = stepAt(bytes, at + WAY.at.dr) as BestStep;
   const [normal, inverse] = [WAY.read.onNormal, WAY.read.onInverse].map((read) => read(bytes, at))
@@ -77,7 +77,6 @@ export function wayAt(bytes: Uint8Array, at: number): BestRow {
   };
 }
 
-/** All ways on whose rows stand one behind the other. */
 export const waysIn = (bytes: Uint8Array) =>
   Array.from({ length: bytes.length / WAY.bytes }, (_, row) => wayAt(bytes, row * WAY.bytes));
 
