@@ -10,7 +10,7 @@ import { NissyFault, NoWebAssembly, inLine } from "../shared/faults.js";
 import { SEARCH_ANSWER, SOLUTION } from "../shared/layout.js";
 import { isStep } from "../shared/steps.js";
 import { encoded, textIn } from "../shared/utf8.js";
-import { InputLines, split } from "./input-lines.js";
+import { answerInput, split } from "./input-lines.js";
 import { OUT_OF_MEMORY, Stop, TOO_LONG } from "./stop.js";
 import { readSome, writeAll } from "./streams.js";
 
@@ -137,7 +137,7 @@ function inputOf(words: string[]) {
 function makeSearch(engine: Engine, search: Search) {
   engine.answer(countRequest(search.step, "", { limit: 0 }));
   if (search.words.length > 0) searchLines(engine, search, inputOf(search.words), 1);
-  else new InputLines(read).answer((lines, first) => searchLines(engine, search, lines, first));
+  else answerInput(read, (lines, first) => searchLines(engine, search, lines, first));
 }
 
 /** Does what the words say. If they read lines, they write nothing for an input without any; of the others only no
@@ -146,7 +146,7 @@ function obey(engine: Engine, words: string[]) {
   const search = searchOf(words);
   if (search !== undefined) makeSearch(engine, search);
   else if (run(engine, words, NOTHING) === 0 && words[0] !== "scramble") {
-    new InputLines(read).answer((lines, first) => run(engine, words, lines, first));
+    answerInput(read, (lines, first) => run(engine, words, lines, first));
   }
 }
 

@@ -61,7 +61,7 @@ class Replies implements AllReply {
 
   /** Takes the reply to the next line. */
   take(reply: OneReply) {
-    this.isOver = Boolean(endsAll(this.request, reply));
+    this.isOver = endsAll(this.request, reply);
     const isValue = this.size > 0 && "answer" in reply && !this.isOver;
     if (isValue) this.values.set((reply as Seen).answer, this.count * this.size);
     else this.others.push([this.count, reply]);
@@ -80,7 +80,7 @@ class Replies implements AllReply {
   /** What is sent and read. */
   get told(): AllReply {
     const { count, size, values, others } = this;
-    return { count, size, values: count * size < values.length ? values.slice(0, count * size) : values, others };
+    return { count, size, values, others };
   }
 }
 

@@ -13,22 +13,6 @@ async function bodyOf(response: Response): Promise<ArrayBuffer> {
   return response.arrayBuffer();
 }
 
-/** What there is of the module already, compiled: its bytes are taken before this returns.
- * @returns none if this is no module */
-function compiledFrom(given: unknown): Promise<WebAssembly.Module> | undefined {
-  if (isBytes(given)) return WebAssembly.compile(new Uint8Array(given));
-  switch (tagOf(given)) {
-    case "WebAssembly.Module":
-      return Promise.resolve(given as WebAssembly.Module);
-    case "ArrayBuffer":
-      return WebAssembly.compile(given as ArrayBuffer);
-    case "Response":
-      return bodyOf(given as Response).then((body) => WebAssembly.compile(body));
-    default:
-      return undefined;
-  }
-}
-
 /** The module, compiled. Rejects with `NoWebAssembly` if the host runs none. */
 export async function compiled(source: ModuleSource | Promise<ModuleSource>): Promise<WebAssembly.Module> {
   if (!globalThis.WebAssembly) {
@@ -37,7 +21,16 @@ export async function compiled(source: ModuleSource | Promise<ModuleSource>): Pr
     throw new NoWebAssembly();
   }
   // bytes that the caller has may be others a moment later
-  const module = compiledFrom(source) ?? compiledFrom(await source);
-  if (module === undefined) throw new TypeError("the module is neither bytes nor a WebAssembly.Module nor a Response");
-  return module;
+  const given: any = typeof (source as any)?.then === "function" ? await source : source;
+  if (isBytes(given)) return WebAssembly.compile(new Uint8Array(given));
+  switch (tagOf(given)) {
+    case "WebAssembly.Module":
+      return given;
+    case "ArrayBuffer":
+      return WebAssembly.compile(given);
+    case "Response":
+      return WebAssembly.compile(await bodyOf(given));
+    default:
+      throw new TypeError("the module is neither bytes nor a WebAssembly.Module nor a Response");
+  }
 }
