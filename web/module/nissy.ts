@@ -1,8 +1,7 @@
 // nissy wherever JavaScript runs: a call ends before it returns. A long search belongs into a worker, as `NissyWorker` of
 // browser.js and of node.js has one.
 import { takeCalls } from "./calls/call-table.js";
-import { refuseUnknown } from "./calls/options.js";
-import { OF_SOLUTIONS, runRequest, solutionsRequest } from "./calls/requests.js";
+import { OF_SOLUTIONS, refuseUnknown, runRequest, solutionsRequest } from "./calls/requests.js";
 import { progressOf } from "./calls/signals.js";
 import { solutionsBy } from "./calls/solutions-in-turn.js";
 import { Engine, type Answering } from "./engine/engine.js";

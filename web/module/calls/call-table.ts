@@ -1,13 +1,12 @@
 // The table of the calls: of each how many arguments come before its options, what is asked for them, and how the reply
 // is read. All that have these calls take them from here: a row more is a call more.
-import { LINES, PAIRS, allOf, allRequest, type ReadOne } from "./many.js";
-import { optionOf } from "./options.js";
+import { LINES, PAIRS, ToldLines, allRequest, type ReadOne } from "./many.js";
 import {
   attemptChecksIn, bestIn, checkIn, countIn, factsIn, lineAfterIn, lineIn, outputLinesIn, solutionsIn,
 } from "./replies.js";
 import {
-  bestRequest, checkRequest, checksRequest, countRequest, lineAfterRequest, lineRequest, listRequest, runRequest,
-  scrambleRequest, scramblesRequest, textRequest, type OfEach, type Request, type Rewriting,
+  bestRequest, checkRequest, checksRequest, countRequest, lineAfterRequest, lineRequest, listRequest, optionOf,
+  runRequest, scrambleRequest, scramblesRequest, textRequest, type OfEach, type Request, type Rewriting,
 } from "./requests.js";
 import { asString } from "../shared/utf8.js";
 import { formPlacesOf, tokensOf } from "../text/tokens.js";
@@ -39,7 +38,11 @@ const many = (
   takes,
   options: [...options, "faults"],
   request: (...given) => allRequest(each(...given), kind, given[takes - 1], given[takes]),
-  read: (reply, request) => allOf(reply, request, one),
+  read(reply, request) {
+    const told = new ToldLines(request, one);
+    told.take(0, reply);
+    return told.all();
+  },
   one,
 });
 

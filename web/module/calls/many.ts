@@ -64,37 +64,49 @@ export function endsAll({ each, faults }: AllRequest, { status }: OneReply) {
   return status !== STATUS.done && faults === "throw";
 }
 
-/** What is told of a line of many. What is thrown of one has its number, and so has what is told in its place.
- * @returns a value, or a fault if they are told so */
-export function toldOf(reply: OneReply, index: number, { each, faults }: AllRequest, one: ReadOne): unknown {
-  try {
-    return one(reply, each);
-  } catch (thrown) {
-    const error = inLine(thrown, index + 1, each.call === "check");
-    if (faults === "throw" || error instanceof SearchCut) throw error;
-    return error;
-  }
-}
+/** What is told of many lines, each in its place. */
+export class ToldLines {
+  #told: unknown[];
+  #request: AllRequest;
+  #one: ReadOne;
+  /** The first line of which an error is thrown. */
+  #failed: { index: number; error: unknown } | null = null;
 
-/** Puts what is told in its places.
- * @param begin the place of the first line
- * @param other reads one of the other replies, by the place of its line */
-export function putTold(
-  told: unknown[], begin: number, { count, size, values, others }: AllReply, one: (reply: Seen) => unknown,
-  other: (reply: OneReply, index: number) => unknown,
-) {
-  // the first that is thrown is that of the first line
-  for (const [at, reply] of others) told[begin + at] = other(reply, begin + at);
-  const isOther = new Set(others.map(([at]) => at));
-  for (let at = 0; size > 0 && at < count; at += 1) {
-    const place = at * size;
-    const status = values[place] === STATUS.cut ? STATUS.cut : STATUS.done;
-    if (!isOther.has(at)) told[begin + at] = one({ status, answer: values, at: place });
+  /** @param one reads a reply */
+  constructor(request: AllRequest, one: ReadOne) {
+    this.#told = new Array(request.lines.length);
+    this.#request = request;
+    this.#one = one;
   }
-}
 
-export function allOf(reply: AllReply, request: AllRequest, one: ReadOne): unknown[] {
-  const told: unknown[] = new Array(reply.count);
-  putTold(told, 0, reply, (seen) => one(seen, request.each), (each, index) => toldOf(each, index, request, one));
-  return told;
+  /** Takes the replies to some lines. @param begin the place of the first one */
+  take(begin: number, { count, size, values, others }: AllReply) {
+    for (const [at, reply] of others) this.#told[begin + at] = this.#read(reply, begin + at);
+    const isOther = new Set(others.map(([at]) => at));
+    for (let at = 0; size > 0 && at < count; at += 1) {
+      const place = at * size;
+      const status = values[place] === STATUS.cut ? STATUS.cut : STATUS.done;
+      const seen: Seen = { status, answer: values, at: place };
+      if (!isOther.has(at)) this.#told[begin + at] = this.#one(seen, this.#request.each);
+    }
+  }
+
+  /** What is thrown of a line has its number, and so has what is told in its place. */
+  #read(reply: OneReply, index: number): unknown {
+    const { each, faults } = this.#request;
+    try {
+      return this.#one(reply, each);
+    } catch (thrown) {
+      const error = inLine(thrown, index + 1, each.call === "check");
+      const isThrown = faults === "throw" || error instanceof SearchCut;
+      if (isThrown && (this.#failed?.index ?? Infinity) > index) this.#failed = { index, error };
+      return error;
+    }
+  }
+
+  /** @returns what is told of each line, unless that is thrown */
+  all(): unknown[] {
+    if (this.#failed !== null) throw this.#failed.error;
+    return this.#told;
+  }
 }

@@ -1,6 +1,6 @@
 // The signals by which callers give calls up, and what they are told of the progress.
 import { Stopped } from "../shared/faults.js";
-import { optionOf } from "./options.js";
+import { optionOf } from "./requests.js";
 
 /** What gives a call up: it rejects with the signal's reason. */
 export type Stoppable = { signal?: AbortSignal | undefined };

@@ -1,7 +1,6 @@
 // The calls as promises, by workers: what one of them throws, its promise is rejected with.
 import { takeCalls, type Row } from "../calls/call-table.js";
-import { refuseUnknown } from "../calls/options.js";
-import { OF_SOLUTIONS, solutionsRequest, type Request } from "../calls/requests.js";
+import { OF_SOLUTIONS, refuseUnknown, solutionsRequest, type Request } from "../calls/requests.js";
 import { onAbort, progressOf, reasonOf, signalOf, type Follow, type Stoppable } from "../calls/signals.js";
 import { solutionsLaterBy } from "../calls/solutions-in-turn.js";
 import { compiled, type ModuleSource } from "../engine/source.js";

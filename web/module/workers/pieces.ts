@@ -1,6 +1,5 @@
 // Many lines in pieces: which of them are asked for next, and what is told of them in the order of the lines.
-import { endsAll, putTold, toldOf, type AllRequest, type ReadOne } from "../calls/many.js";
-import type { OneReply } from "../calls/replies.js";
+import { ToldLines, endsAll, type AllRequest, type ReadOne } from "../calls/many.js";
 import type { Progress } from "../calls/signals.js";
 import type { PieceReply } from "./serve.js";
 
@@ -21,12 +20,10 @@ const PIECES = 2;
 
 export class Pieces {
   /** Where each piece begins. */ #begins: number[] = [];
-  /** What is told of each line. */ #told: unknown[];
-  /** Whether each piece is told. */ #isTold: boolean[] = [];
-  /** The first line of which an error is thrown. */ #failed: { index: number; error: unknown } | null = null;
+  #told: ToldLines;
+  /** The pieces that were begun and aren't told. */ #open = new Set<number>();
   /** how many lines are in a piece */ #begun = 0;
-  /** how many pieces are told, and so has been each before them */ #known = 0;
-  /** how many are wanted: none behind a reply that ends the call */ #wanted = Infinity;
+  /** how many pieces are wanted: none behind a reply that ends the call */ #wanted = Infinity;
   #size = FIRST_LINES;
   #least = 1;
   #done = 0;
@@ -34,8 +31,8 @@ export class Pieces {
 
   /** @param workers how many share the pieces
    * @param one reads a reply */
-  constructor(private request: AllRequest, private workers: number, private one: ReadOne) {
-    this.#told = new Array(request.lines.length);
+  constructor(private request: AllRequest, private workers: number, one: ReadOne) {
+    this.#told = new ToldLines(request, one);
   }
 
   /** How many pieces the workers have: each a second one, if they are quick, to go on with while this thread reads the
@@ -51,6 +48,7 @@ export class Pieces {
     // a step that isn't there is told though there may be no line
     if (at >= this.#wanted || (left === 0 && at > 0)) return null;
     this.#begins.push(this.#begun);
+    this.#open.add(at);
     const shared = Math.max(this.#least, Math.ceil(left / (PIECES * this.workers)));
     this.#begun += Math.min(left, shared, this.#size);
     return at;
@@ -79,34 +77,20 @@ export class Pieces {
   }
 
   take(at: number, reply: PieceReply) {
-    const begin = this.#begins[at];
-    const { each } = this.request;
-    putTold(this.#told, begin, reply, (seen) => this.one(seen, each), (other, index) => this.#read(other, index));
-    this.#done += this.#endOf(at) - begin;
-    this.#isTold[at] = true;
-    while (this.#isTold[this.#known]) this.#known += 1;
-  }
-
-  /** @param index of its line */
-  #read(reply: OneReply, index: number) {
-    try {
-      return toldOf(reply, index, this.request, this.one);
-    } catch (error) {
-      if (this.#failed === null || index < this.#failed.index) this.#failed = { index, error };
-      return undefined;
-    }
+    this.#told.take(this.#begins[at], reply);
+    this.#done += this.#endOf(at) - this.#begins[at];
+    this.#open.delete(at);
   }
 
   /** Whether all is told that is wanted. */
   areWhole() {
     const isBegun = this.#begun === this.request.lines.length && this.#begins.length > 0;
-    return this.#known >= Math.min(this.#wanted, isBegun ? this.#begins.length : Infinity);
+    return (isBegun || this.#begins.length >= this.#wanted) && [...this.#open].every((at) => at >= this.#wanted);
   }
 
   /** @returns what is told of each line, unless that is thrown */
   told(): unknown[] {
-    if (this.#failed !== null) throw this.#failed.error;
-    return this.#told;
+    return this.#told.all();
   }
 
   progress(): Progress {
