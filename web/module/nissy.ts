@@ -4,7 +4,7 @@ import { takeCalls } from "./calls/call-table.js";
 import { OF_SOLUTIONS, refuseUnknown, runRequest, solutionsRequest } from "./calls/requests.js";
 import { progressOf } from "./calls/signals.js";
 import { solutionsBy } from "./calls/solutions-in-turn.js";
-import { Engine, type Answering } from "./engine/engine.js";
+import { Engine } from "./engine/engine.js";
 import type { Calls } from "./calls/calls.js";
 import type { ModuleSource } from "./engine/source.js";
 
@@ -31,7 +31,7 @@ export const VERSION = "2.0.0";
 /** The engine, loaded. After a call that broke off the next one starts the module anew, or throws `EngineMissing` if that
  * can't be done. */
 export class Nissy {
-  #engine: Answering;
+  #engine: Engine;
 
   // a field, since older hosts know no block here
   static #calls = takeCalls<Nissy>(this.prototype, (nissy, row, given) => {
@@ -50,7 +50,7 @@ export class Nissy {
     },
   });
 
-  constructor(engine: Answering) {
+  constructor(engine: Engine) {
     this.#engine = engine;
   }
 

@@ -1,12 +1,14 @@
 // The command `nissy` in node: what the program does with its words, its streams and its status, by the module.
 import { readFileSync } from "node:fs";
 import process from "node:process";
-import { countIn, withValue, type Answer, type Seen } from "../calls/replies.js";
+import { countIn, withValue, type Seen } from "../calls/replies.js";
 import { MOST_TURNS, countRequest, runRequest, solveRequest } from "../calls/requests.js";
-import { Engine } from "../engine/engine.js";
+import { Instance } from "../engine/instance.js";
+import { counted, solvedBytes } from "../engine/line-calls.js";
+import { runIn } from "../engine/runs.js";
 import { STATUS } from "../engine/status.js";
 import { LINE_FEED, MOST_INPUT } from "../shared/bytes.js";
-import { NissyFault, NoWebAssembly, inLine } from "../shared/faults.js";
+import { NissyFault, inLine } from "../shared/faults.js";
 import { SEARCH_ANSWER, SOLUTION } from "../shared/layout.js";
 import { isStep } from "../shared/steps.js";
 import { encoded, textIn } from "../shared/utf8.js";
@@ -57,17 +59,17 @@ const read = (buffer: Uint8Array) => byStream("cannot read", () => readSome(INPU
 /** Makes a run without a search, and writes its output.
  * @param first the number of the input's first line
  * @returns how many bytes it wrote */
-function run(engine: Engine, words: string[], input: Uint8Array, first = 1): number {
-  const { status, out, err } = engine.answer(runRequest(words, input, RUN_ROOM)) as Answer;
+function run(instance: Instance, words: string[], input: Uint8Array, first = 1): number {
+  const { status, out, err } = runIn(instance, runRequest(words, input, RUN_ROOM));
   write(out);
   if (status !== STATUS.done) throw new Stop(status, textIn(err)).after(first - 1);
   return out.length;
 }
 
 /** Writes how many solutions a line has. */
-function writeCount(engine: Engine, { step, limit }: Search, line: Uint8Array) {
+function writeCount(instance: Instance, { step, limit }: Search, line: Uint8Array) {
   const request = countRequest(step, line, { limit });
-  const { length, solutions, nodes } = countIn(engine.answer(request) as Seen, request);
+  const { length, solutions, nodes } = countIn(counted(instance, request), request);
   writeText(`length ${length ?? "none"} solutions ${solutions} nodes ${nodes}\n`);
 }
 
@@ -88,16 +90,16 @@ const lastMoves = (out: Uint8Array) =>
   textIn(out.subarray(out.lastIndexOf(LINE_FEED, out.length - 2) + 1, out.lastIndexOf(BRACKET))).trimEnd();
 
 /** Writes the solutions of a line in pieces, each of which goes on after the last solution of the one before. */
-function writeSolutions(engine: Engine, { step, limit, slack }: Search, line: Uint8Array) {
+function writeSolutions(instance: Instance, { step, limit, slack }: Search, line: Uint8Array) {
   const request = solveRequest(step, line, { limit, slack, most: MOST_OF_PIECE });
-  let piece: Piece = withValue(engine.solutionBytes(request));
+  let piece: Piece = withValue(solvedBytes(instance, request));
   if (READ.solutions(piece.answer, piece.at) === 0) {
     writeText(`no solution within ${limit} moves\n\n`);
     return;
   }
   writePiece(piece);
   while (hasMore(piece)) {
-    piece = withValue(engine.solutionBytes({ ...request, after: lastMoves(piece.out) }));
+    piece = withValue(solvedBytes(instance, { ...request, after: lastMoves(piece.out) }));
     writePiece(piece);
   }
 }
@@ -113,12 +115,12 @@ function searchOf([command, step, ...rest]: string[]): Search | undefined {
 }
 
 /** Answers lines of a search by the tables that stay. */
-function searchLines(engine: Engine, search: Search, lines: Uint8Array, first: number) {
+function searchLines(instance: Instance, search: Search, lines: Uint8Array, first: number) {
   const writeFound = search.command === "count" ? writeCount : writeSolutions;
   let number = first;
   for (const line of split(lines)) {
     try {
-      writeFound(engine, search, line);
+      writeFound(instance, search, line);
     } catch (error) {
       throw inLine(error, number);
     }
@@ -134,27 +136,28 @@ function inputOf(words: string[]) {
 }
 
 /** Makes a search. Its tables are built before anything is read. */
-function makeSearch(engine: Engine, search: Search) {
-  engine.answer(countRequest(search.step, "", { limit: 0 }));
-  if (search.words.length > 0) searchLines(engine, search, inputOf(search.words), 1);
-  else answerInput(read, (lines, first) => searchLines(engine, search, lines, first));
+function makeSearch(instance: Instance, search: Search) {
+  instance.tablesOf(search.step);
+  if (search.words.length > 0) searchLines(instance, search, inputOf(search.words), 1);
+  else answerInput(read, (lines, first) => searchLines(instance, search, lines, first));
 }
 
 /** Does what the words say. If they read lines, they write nothing for an input without any; of the others only no
  * scrambles write nothing. */
-function obey(engine: Engine, words: string[]) {
+function obey(instance: Instance, words: string[]) {
   const search = searchOf(words);
-  if (search !== undefined) makeSearch(engine, search);
-  else if (run(engine, words, NOTHING) === 0 && words[0] !== "scramble") {
-    answerInput(read, (lines, first) => run(engine, words, lines, first));
+  if (search !== undefined) makeSearch(instance, search);
+  else if (run(instance, words, NOTHING) === 0 && words[0] !== "scramble") {
+    answerInput(read, (lines, first) => run(instance, words, lines, first));
   }
 }
 
-async function started(): Promise<Engine> {
+async function started(): Promise<Instance> {
+  if (!globalThis.WebAssembly) throw Stop.because("this node runs no WebAssembly");
   try {
-    return await Engine.start(readFileSync(new URL("../nissy.wasm", import.meta.url)));
+    const module = readFileSync(new URL("../nissy.wasm", import.meta.url));
+    return new Instance((await WebAssembly.instantiate(module)).instance);
   } catch (error) {
-    if (error instanceof NoWebAssembly) throw Stop.because("this node runs no WebAssembly");
     throw Stop.because(`nissy.wasm can't be loaded: ${(error as Error).message}`);
   }
 }

@@ -100,7 +100,8 @@ export function solved(instance: Instance, request: SolveRequest): SolveReply {
   return { status: STATUS.room };
 }
 
-/** The same for a few solutions, as bytes that stand in the module's memory until its next call. */
+/** The same for a few solutions, as bytes that stand in the module's memory until its next call: so a list that is gone
+ * through in pieces leaves nothing to be collected. */
 export const solvedBytes = (instance: Instance, request: SolveRequest): SolveBytesReply =>
   solvedIn(instance, request, request.most * SOLUTION, (at, length) => instance.memory.bytes(at, length));
 

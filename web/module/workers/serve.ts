@@ -1,5 +1,5 @@
 // The engine's side of a worker: the first message brings the module, and each later one is answered.
-import { Engine, type Reply } from "../engine/engine.js";
+import { Engine } from "../engine/engine.js";
 import type { AllReply } from "../calls/many.js";
 import type { Progress } from "../calls/signals.js";
 import type { Request } from "../calls/requests.js";
@@ -16,8 +16,7 @@ export type Port = {
 };
 
 /** The buffers of a reply, which needs them no longer here. */
-const buffersOf = (reply: Reply) => ["out", "err", "ways", "parts", "values"]
-  .flatMap((name) => (reply as any)[name]?.buffer ?? []);
+const buffersOf = (reply: any) => ["out", "err", "ways", "parts", "values"].flatMap((name) => reply[name]?.buffer ?? []);
 
 /** Answers what comes through a port, once the first message has brought the module.
  * @param answer posts the answers to a later message; what it throws is posted as an error */
