@@ -31,7 +31,6 @@ export type RunRest<Time extends When> = Time extends "now" ? [room?: number]
  * lines each fault, which says in which it is, stands in its place, or the first is thrown; of two lines its `line` is
  * 1 for the scramble, and its `part` names it. What is thrown at once, a promise is rejected with. */
 export interface Calls<Time extends When> {
-  /** The inverse of a line's moves. */
   invert(line: Text, ...rest: Rest<Time>): Answered<Time, string>;
   /** A line's moves as one sequence: those in brackets inverted at the end. */
   unniss(line: Text, ...rest: Rest<Time>): Answered<Time, string>;
@@ -39,7 +38,6 @@ export interface Calls<Time extends When> {
   cleanup(line: Text, ...rest: Rest<Time>): Answered<Time, string>;
   /** The 54 letters of the cube after a line's moves, as the program's `print` shows them. */
   facelets(line: Text, ...rest: Rest<Time>): Answered<Time, string>;
-  /** The moves of a line as they are written, one after another. */
   tokens(line: Text, ...rest: Rest<Time>): Answered<Time, Token[]>;
   /** Where a line has forms that the WCA's notation for solutions hasn't: those of its places together are the `forms`
    * of `check`. */
@@ -57,7 +55,6 @@ export interface Calls<Time extends When> {
     step: StepName<Name>, lines: readonly Text[],
     options?: Wanted & OnSides<On> & Many<Faults> & ManyBesides<Time>,
   ): Answered<Time, Told<SolutionsOn<On>, Faults>[]>;
-  /** How many solutions there are. */
   count<Name extends string>(
     step: StepName<Name>, line: Text, options?: Wanted & Besides<Time>,
   ): Answered<Time, Count>;
@@ -79,9 +76,7 @@ export interface Calls<Time extends When> {
   /** A text as solvers write it as one line: without labels, comments, and numbers of lines and moves. `placeOf` says
    * where a fault or a form of the line stands in the text. */
   plainLine(text: string, ...rest: Rest<Time>): Answered<Time, PlainLine>;
-  /** The attempts of a text as solvers write it, at least one: a scramble, then the steps of its solution, each on a
-   * line with a comment or a label, and blocks of candidates after blank lines; and the same of several scrambles. A
-   * text of another form is one scramble. */
+  /** The attempts of a text as solvers write it, at least one: a text of another form is one scramble. */
   readAttempts(text: string, ...rest: Rest<Time>): Answered<Time, Attempt[]>;
   /** Each attempt that `readAttempts` reads in a text, with what `check` says of it, and where in the text its fault
    * and the forms of its solution stand, and what makes one doubt the reading of one that isn't solved.

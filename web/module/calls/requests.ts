@@ -5,7 +5,6 @@ import {
 import { asString } from "../shared/utf8.js";
 import type { AllRequest } from "./many.js";
 
-/** What is made of a line. */
 export type Rewriting = "invert" | "unniss" | "cleanup" | "facelets";
 /** Whether something is thrown, or told in the place of an answer. */
 export type Telling = "throw" | "value";
@@ -37,11 +36,10 @@ export type Request = OfEach | AllRequest
   | { call: "steps" };
 export type RequestOf<Call extends Request["call"]> = Request & { call: Call };
 
-/** How far a step is searched: `limit`, the most turns of a solution, 20 at most and if it isn't given; `slack`, how
- * many turns more than the shortest a solution may have, none if it isn't given; `most`, after how many solutions the
- * search ends, after all if it isn't given; `nodes`, at how many positions it looks at most, at as many as there are if
- * it isn't given. A search that would look at more is cut: `cut` says whether `SearchCut` is thrown, as it is if it
- * isn't given, or what was found until then returned. */
+/** How far a step is searched: `limit`, the most turns of a solution, at most and else 20; `slack`, how many turns more
+ * than the shortest it may have, else none; `most`, after how many solutions the search ends, else after all; `nodes`,
+ * at how many positions it looks at most, else at all. A search that would look at more is cut: `cut` says whether
+ * `SearchCut` is thrown, as it is else, or what was found until then returned. */
 export type Wanted = {
   limit?: number | undefined;
   slack?: number | undefined;
@@ -58,10 +56,8 @@ export type OnSides<On extends Sides | undefined = Sides | undefined> = { sides?
 export type Known = { scrambles?: readonly Text[] | undefined };
 
 /** What is wanted of the best ways on: `soFar`, the moves that were made after the scramble, those in brackets on its
- * inverse, none if it isn't given; `slack`, how many turns longer the first step may be than the shortest on the
- * scramble alone, on its inverse alone, or over both, none if it isn't given; `most`, how many rows, 20 if it isn't
- * given; `nodes` and `cut` as of other searches: in a pool each axis is searched up to this bound, and what may be
- * returned is the best of what was tried. */
+ * inverse, else none; `slack`, how many turns longer the first step may be than the shortest on the scramble alone, on
+ * its inverse alone, or over both, else none; `most`, how many rows, else 20; `nodes`, of each axis in a pool. */
 export type BestWanted = Omit<Wanted, "limit"> & { soFar?: Text | undefined };
 
 /** The most turns of a search. */

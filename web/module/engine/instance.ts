@@ -29,12 +29,9 @@ const NEEDED = ["memory", "__heap_base", "nissy_run"];
 
 export class Instance {
   #exports: Exports;
-  /** Where the tables of each step are. */
   #tables = new Map<string, number>();
   /** Whether a call began that didn't return: what the module has in its memory is then in no order. */
   isBroken = false;
-  /** What the module calls faults, by their numbers. */
-  faultTexts = new Map<number, string>();
   memory: InstanceMemory;
   /** Where answers are written. */
   answer: number;

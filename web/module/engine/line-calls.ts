@@ -22,13 +22,6 @@ export const boundsOf = ({ limit, slack, most, nodes }: Search): Given[] => [lim
 /** @returns what was written, nothing if the call has no value */
 const outOf = (reply: LineReply): string => (reply.status === STATUS.done ? reply.out : "");
 
-/** What the module calls a fault, which it is asked for once. */
-function faultText(instance: Instance, fault: number) {
-  const text = instance.faultTexts.get(fault) ?? outOf(written(instance, "nissy_fault_text", [fault]));
-  instance.faultTexts.set(fault, text);
-  return text;
-}
-
 /** Why a call on a line has no value. The module is asked for the words, so its answer is read before.
  * @param line which was read
  * @param step which is searched
@@ -38,7 +31,7 @@ export function refusal(
 ): NoValue {
   const [status, fault, column] = [HEAD.read.status, HEAD.read.fault, HEAD.read.column].map((read) => read(bytes, at));
   if (status !== STATUS.fault) return { status } as NoValue;
-  const text = faultText(instance, fault);
+  const text = outOf(written(instance, "nissy_fault_text", [fault]));
   if (fault === START_FAULT) {
     return { status, fault, step, start: outOf(rewritten(instance, "nissy_start", step)), text };
   }

@@ -16,9 +16,7 @@ const MOST_LINES = 256;
 const MOST_OF_TEXT = 262_144;
 
 /** The struct of an answer that has all that is told. */
-const STRUCTS: Partial<Record<OfEach["call"], Struct>> = {
-  facts: FACTS_ANSWER, count: SEARCH_ANSWER, check: CHECK_ANSWER,
-};
+const STRUCTS: { [call: string]: Struct } = { facts: FACTS_ANSWER, count: SEARCH_ANSWER, check: CHECK_ANSWER };
 
 const hasLineFeed = (line: Text) => (typeof line === "string" ? line.includes("\n") : line.includes(LINE_FEED));
 
@@ -112,19 +110,16 @@ function questionOf(instance: Instance, { each, faults }: AllRequest): Question 
   return { name: "nissy_count_lines", step: each.step, given };
 }
 
-/** What is asked of one of many lines. */
-function askedOfLine(each: OfEach, line: Text | Pair): OfEach {
-  if (each.call === "check") return { ...each, ...line as Pair } as OfEach;
-  const own = line as Text;
-  return each.call === "best" ? { ...each, scramble: own } : { ...each, line: own };
-}
-
-/** The reply to a line of which too many bytes were given, or none if it has no more than are read. */
-function tooLong(line: Text | Pair | null): OneReply | null {
-  if (line === null) return TOO_LONG;
-  if (typeof line === "string" || !("scramble" in line)) return null;
-  if (line.scramble === null) return { ...TOO_LONG, line: 1 };
-  return line.solution === null ? { ...TOO_LONG, line: 2 } : null;
+/** The reply to a line by itself, of which too many bytes may have been given. */
+function replyTo(each: OfEach, line: Text | Pair | null, answer: (asked: OfEach) => OneReply): OneReply {
+  if (each.call === "check") {
+    const { scramble, solution } = line as Pair;
+    if (scramble !== null && solution !== null) return answer({ ...each, scramble, solution });
+    return { ...TOO_LONG, line: scramble === null ? 1 : 2 };
+  }
+  const own = line as Text | null;
+  if (own === null) return TOO_LONG;
+  return answer(each.call === "best" ? { ...each, scramble: own } : { ...each, line: own });
 }
 
 /** Answers lines in turn, up to the first whose answer ends the call.
@@ -136,10 +131,9 @@ export function answerAll(
   const question = questionOf(instance, request);
   const replies = new Replies(request);
   while (replies.count < lines.length && !replies.isOver) {
-    const line = lines[replies.count];
     const piece = question === null ? [] : pieceFrom(lines as (Text | null)[], replies.count);
     if (question !== null && piece.length > 0) answerPiece(instance, question, piece, replies);
-    else replies.take(tooLong(line) ?? answer(askedOfLine(each, line as Text | Pair)));
+    else replies.take(replyTo(each, lines[replies.count], answer));
   }
   return replies.told;
 }
