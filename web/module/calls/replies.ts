@@ -50,9 +50,8 @@ export type SolveReply = Seen & { out: string } | NoValue;
 export type SolveBytesReply = Seen & { out: Uint8Array } | NoValue;
 /** How many there are of one length, if the search wasn't cut. */
 export type CountOfSides = { solutions: number; nodes: number; isCut: boolean };
-/** The rows that were found, as the module has them, and at how many positions it looked. */
+/** The rows that were found, as the module has them, and at how many positions it looked; `tried`: how many ways on. */
 export type FoundParts = { status: 0 | 5; parts: Uint8Array; nodes: number };
-/** The same of ways on; `tried`: how many were. */
 export type FoundWays = { ways: Uint8Array; tried: number; nodes: number };
 export type BestReply = FoundWays & { status: 0 | 5 } | OfTwo;
 
@@ -83,9 +82,10 @@ const NAMES_OF_BEST = ["scramble", "moves so far"];
 const BRACKET = "(".charCodeAt(0);
 const ZERO = "0".charCodeAt(0);
 
-/** @param part what the line is called, if it is one of two
+/** @param names of the lines, if they are two
  * @returns what is wrong */
-function errorIn(reply: NoValue, part = ""): Error {
+function errorIn(reply: NoValue & { line?: number }, names: readonly string[]): Error {
+  const part = names[Number(reply.line) - 1] ?? "";
   switch (reply.status) {
     case STATUS.fault:
       return new NissyFault(reply.fault === START_FAULT ? `${reply.start} ${reply.text}` : reply.text, reply, part);
@@ -98,11 +98,11 @@ function errorIn(reply: NoValue, part = ""): Error {
   }
 }
 
-const errorOfTwo = (reply: OfTwo, names: readonly string[]) => errorIn(reply, names[reply.line - 1]);
-
 /** @returns the same, which has a value */
-export function withValue<Reply extends { status: number }>(reply: Reply): Exclude<Reply, NoValue> {
-  if (!hasValue(reply.status)) throw errorIn(reply as unknown as NoValue);
+export function withValue<Reply extends { status: number }>(
+  reply: Reply, names: readonly string[] = [],
+): Exclude<Reply, NoValue> {
+  if (!hasValue(reply.status)) throw errorIn(reply as unknown as NoValue, names);
   return reply as Exclude<Reply, NoValue>;
 }
 
@@ -192,7 +192,7 @@ const [FB, RL, UD] = AXES.map((_, at) => FACTS_ANSWER.at.axes + at * AXIS_FACTS.
 
 /** The facts in the struct at a place. One function makes all objects of a line: so those of many lines take the host
  * half as long. */
-export function factsFrom(bytes: Uint8Array, at: number): Facts {
+function factsFrom({ answer: bytes, at }: Seen): Facts {
   const { solved, moves, cleanMoves, holds } = FACTS_ANSWER.read;
   const { badEdgePlaces: edges, badCornerPlaces: corners, misplacedEdgePlaces: misplaced } = AXIS_FACTS.read;
   const fb = at + FB;
@@ -215,31 +215,25 @@ export function factsFrom(bytes: Uint8Array, at: number): Facts {
 }
 
 /** What is told of a solution in the struct at a place. */
-export const checkFrom = (bytes: Uint8Array, at: number): Check => ({
+const checkFrom = ({ answer: bytes, at }: Seen): Check => ({
   solved: CHECK_ANSWER.read.solved(bytes, at) === 1,
   moves: CHECK_ANSWER.read.moves(bytes, at),
   cleanMoves: CHECK_ANSWER.read.cleanMoves(bytes, at),
   forms: formsIn(CHECK_ANSWER.read.forms(bytes, at)),
 });
 
-export const factsIn = (reply: Seen | NoValue): Facts => {
-  const { answer, at } = withValue(reply);
-  return factsFrom(answer, at);
-};
+export const factsIn = (reply: Seen | NoValue): Facts => factsFrom(withValue(reply));
 
-export function checkIn(reply: Seen | OfTwo): Check {
-  if (!("answer" in reply)) throw errorOfTwo(reply, NAMES_OF_CHECK);
-  return checkFrom(reply.answer, reply.at);
-}
+export const checkIn = (reply: Seen | OfTwo): Check => checkFrom(withValue(reply, NAMES_OF_CHECK));
 
 function attemptCheckIn({ attempt, seen, place, forms, doubt }: SeenAttempt): AttemptCheck {
   const told: AttemptCheck = { attempt, place, forms, doubt, check: null, fault: null };
   if (seen === null) return told;
   if ("answer" in seen) {
-    if (attempt.solution !== null) told.check = checkFrom(seen.answer, seen.at);
+    if (attempt.solution !== null) told.check = checkFrom(seen);
     return told;
   }
-  const error = errorOfTwo(seen, NAMES_OF_CHECK);
+  const error = errorIn(seen, NAMES_OF_CHECK);
   if (!(error instanceof NissyFault)) throw error;
   told.fault = error;
   return told;
@@ -248,15 +242,11 @@ function attemptCheckIn({ attempt, seen, place, forms, doubt }: SeenAttempt): At
 export const attemptChecksIn = (replies: SeenAttempt[]): AttemptCheck[] =>
   withoutTraces(() => replies.map(attemptCheckIn));
 
-export function lineAfterIn(reply: LineReply | OfTwo): string {
-  if ("out" in reply) return reply.out;
-  throw errorOfTwo(reply as OfTwo, NAMES_OF_BEST);
-}
+export const lineAfterIn = (reply: LineReply | OfTwo): string => withValue(reply, NAMES_OF_BEST).out;
 
 export function bestIn(reply: BestReply, { cut }: { cut: Telling }): Best {
-  if (!("ways" in reply)) throw errorOfTwo(reply, NAMES_OF_BEST);
-  const { nodes } = reply;
-  const best: Best = Object.assign(waysIn(reply.ways), { nodes });
+  const { status, ways, nodes } = withValue(reply, NAMES_OF_BEST);
+  const best: Best = Object.assign(waysIn(ways), { nodes });
   // the cut of several searches together, which tells of none of them
-  return cutOr(reply.status, cut, best, () => new SearchCut({ length: null, solutions: 0, nodes }, null));
+  return cutOr(status, cut, best, () => new SearchCut({ length: null, solutions: 0, nodes }, null));
 }

@@ -8,7 +8,7 @@ import { LINE_FEED, joinedBytes, type Text } from "../shared/bytes.js";
 import { encoded } from "../shared/utf8.js";
 import type { Given, Instance } from "./instance.js";
 import type { OfEach, Pair } from "../calls/requests.js";
-import type { OneReply, Seen } from "../calls/replies.js";
+import type { OneReply } from "../calls/replies.js";
 import type { Struct } from "../shared/structs.js";
 
 /** So many lines go to the module at once, of so many bytes unless the first one has more. */
@@ -44,49 +44,25 @@ function joinedLines(lines: Text[]): Text {
   return joinedBytes(lines.flatMap((line) => [typeof line === "string" ? encoded(line) : line, feed]));
 }
 
-/** The replies to lines in turn, up to the first that ends the call. */
-class Replies implements AllReply {
-  count = 0;
-  size: number;
-  values: Uint8Array;
-  others: AllReply["others"] = [];
-  isOver = false;
-
-  constructor(private request: AllRequest) {
-    this.size = STRUCTS[request.each.call]?.bytes ?? 0;
-    this.values = new Uint8Array(this.size * request.lines.length);
-  }
-
-  /** Takes the reply to the next line. */
-  take(reply: OneReply) {
-    this.isOver = endsAll(this.request, reply);
-    const isValue = this.size > 0 && "answer" in reply && !this.isOver;
-    if (isValue) this.values.set((reply as Seen).answer, this.count * this.size);
-    else this.others.push([this.count, reply]);
-    this.count += 1;
-  }
-
-  /** Takes answers that stand one after another, of which each without a value is replied to otherwise. */
-  takeAll(answers: Uint8Array, other: (nth: number) => OneReply) {
-    this.values.set(answers, this.count * this.size);
-    for (let nth = 0; nth * this.size < answers.length && !this.isOver; nth += 1) {
-      if (hasValue(answers[nth * this.size])) this.count += 1;
-      else this.take(other(nth));
-    }
-  }
-
-  /** What is sent and read. */
-  get told(): AllReply {
-    const { count, size, values, others } = this;
-    return { count, size, values, others };
-  }
+/** Takes the reply to the next line.
+ * @returns whether it ends the call */
+function take(replies: AllReply, request: AllRequest, reply: OneReply): boolean {
+  const { count, size, values, others } = replies;
+  const isLast = endsAll(request, reply);
+  if (size > 0 && "answer" in reply && !isLast) values.set(reply.answer, count * size);
+  else others.push([count, reply]);
+  replies.count += 1;
+  return isLast;
 }
 
 /** What is asked of many lines by one call of the module, of a step if it has one. */
 type Question = { name: string; step?: string; given: (lines: Given, answers: Given) => Given[] };
 
-/** Asks the module of a piece. */
-function answerPiece(instance: Instance, { name, step, given }: Question, lines: Text[], replies: Replies) {
+/** Asks the module of a piece.
+ * @returns whether a reply of it ends the call */
+function takePiece(
+  replies: AllReply, instance: Instance, request: AllRequest, { name, step, given }: Question, lines: Text[],
+): boolean {
   const { size } = replies;
   const all = given({ text: joinedLines(lines) }, { rows: lines.length, of: { bytes: size } });
   const places = instance.ask(name, all);
@@ -94,7 +70,13 @@ function answerPiece(instance: Instance, { name, step, given }: Question, lines:
   if (!isWhole) throw new Error("the module took other lines than it was given");
   // a copy, since the module is asked for the words of a fault, which it may write over them
   const answers = instance.memory.copy(places[all.length - 1], lines.length * size);
-  replies.takeAll(answers, (nth) => refusal(instance, lines[nth], step, answers, nth * size));
+  replies.values.set(answers, replies.count * size);
+  let isLast = false;
+  for (let nth = 0; nth < lines.length && !isLast; nth += 1) {
+    if (hasValue(answers[nth * size])) replies.count += 1;
+    else isLast = take(replies, request, refusal(instance, lines[nth], step, answers, nth * size));
+  }
+  return isLast;
 }
 
 /** What is asked of many lines at once, or null if each has to be asked by itself: the module has no such call, or the
@@ -129,11 +111,12 @@ export function answerAll(
 ): AllReply {
   const { each, lines } = request;
   const question = questionOf(instance, request);
-  const replies = new Replies(request);
-  while (replies.count < lines.length && !replies.isOver) {
+  const size = STRUCTS[each.call]?.bytes ?? 0;
+  const replies: AllReply = { count: 0, size, values: new Uint8Array(size * lines.length), others: [] };
+  for (let isLast = false; replies.count < lines.length && !isLast;) {
     const piece = question === null ? [] : pieceFrom(lines as (Text | null)[], replies.count);
-    if (question !== null && piece.length > 0) answerPiece(instance, question, piece, replies);
-    else replies.take(replyTo(each, lines[replies.count], answer));
+    if (question !== null && piece.length > 0) isLast = takePiece(replies, instance, request, question, piece);
+    else isLast = take(replies, request, replyTo(each, lines[replies.count], answer));
   }
-  return replies.told;
+  return replies;
 }

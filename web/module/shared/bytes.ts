@@ -49,17 +49,11 @@ export function takenLine(line: unknown, what: string): Text {
   return taken;
 }
 
-/** How many bytes the typographic apostrophe has, the one sign of moves that has several. */
-const OF_APOSTROPHE = 3;
-const LAST_OF_ASCII = 0x7f;
-
 /** Which character of a line stands at a column, from 1: what stands before a fault spells moves, so it can be read.
  * @param column in bytes from 1 */
 export function characterAt(line: Text, column: number) {
-  if (typeof line !== "string") return textIn(line.subarray(0, column - 1)).length + 1;
-  let at = 0;
-  for (let byte = 1; byte < column; at += 1) byte += line.charCodeAt(at) > LAST_OF_ASCII ? OF_APOSTROPHE : 1;
-  return at + 1;
+  const bytes = typeof line === "string" ? encoded(line) : line;
+  return textIn(bytes.subarray(0, column - 1)).length + 1;
 }
 
 export function eachOf<Value, Made>(values: readonly Value[], make: (value: Value, index: number) => Made): Made[] {
