@@ -21,7 +21,7 @@ export function* solutionsBy(
 ): Generator<Solution, void, undefined> {
   for (let piece: SolveRequest | null = { ...request, most: FIRST_OF_PIECES }; piece !== null;) {
     const found: Solutions = solutionsIn(ask(piece), piece);
-    yield* found;
+    for (const solution of found) yield solution;
     piece = nextPiece(piece, found);
   }
 }
@@ -32,7 +32,7 @@ export async function* solutionsLaterBy(
 ): AsyncGenerator<Solution, void, undefined> {
   for (let piece: SolveRequest | null = { ...request, most: FIRST_OF_PIECES }; piece !== null;) {
     const found: Solutions = solutionsIn(await ask(piece), piece);
-    yield* found;
+    for (const solution of found) yield solution;
     piece = nextPiece(piece, found);
   }
 }
