@@ -1,5 +1,5 @@
-// nissy wherever JavaScript runs: a call ends before it returns. A long search belongs into a worker, as `NissyWorker` of
-// browser.js and of node.js has one.
+// nissy wherever JavaScript runs: a call ends before it returns. A long search belongs into a worker, as `NissyWorker`
+// of browser.js and of node.js has one.
 import { takeCalls } from "./calls/call-table.js";
 import { OF_SOLUTIONS, refuseUnknown, runRequest, solutionsRequest } from "./calls/requests.js";
 import { progressOf } from "./calls/signals.js";
@@ -28,8 +28,8 @@ export { placeOf } from "./text/written.js";
 /** The version of the scripts, and of the module that comes with them. */
 export const VERSION = "2.0.0";
 
-/** The engine, loaded. After a call that broke off the next one starts the module anew, or throws `EngineMissing` if that
- * can't be done. */
+/** The engine, loaded. After a call that broke off the next one starts the module anew, or throws `EngineMissing` if
+ * that can't be done. */
 export class Nissy {
   #engine: Engine;
 

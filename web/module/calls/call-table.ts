@@ -1,6 +1,6 @@
 // The table of the calls: of each how many arguments come before its options, what is asked for them, and how the reply
 // is read. All that have these calls take them from here: a row more is a call more.
-import { LINES, PAIRS, ToldLines, allRequest, type ReadOne } from "./many.js";
+import { LINES, PAIRS_OF_LINES, ToldLines, allRequest, type ReadOne } from "./many.js";
 import {
   attemptChecksIn, bestIn, checkIn, countIn, factsIn, lineAfterIn, lineIn, outputLinesIn, solutionsIn,
 } from "./replies.js";
@@ -61,7 +61,7 @@ export const TABLE: Record<Exclude<keyof Calls<"now">, "solutions">, Row> = {
   facts: { takes: 1, request: (line) => lineRequest("facts", line), read: factsIn },
   factsAll: many(1, [], () => lineRequest("facts", ""), factsIn),
   check: { takes: 2, request: checkRequest, read: checkIn },
-  checkAll: many(1, [], () => checkRequest("", ""), checkIn, PAIRS),
+  checkAll: many(1, [], () => checkRequest("", ""), checkIn, PAIRS_OF_LINES),
   plainLine: { takes: 1, request: (text) => textRequest("plainLine", text), read: (reply) => reply },
   readAttempts: { takes: 1, request: (text) => textRequest("readAttempts", text), read: (reply) => reply },
   checkAttempts: { takes: 1, options: ["scrambles"], request: checksRequest, read: attemptChecksIn },

@@ -40,7 +40,7 @@ type Kind = { name: string; one: (value: unknown, number: number, take: typeof r
 
 export const LINES: Kind = { name: "lines", one: (line, number, take) => take(line, `line ${number}`) };
 
-export const PAIRS: Kind = {
+export const PAIRS_OF_LINES: Kind = {
   name: "pairs",
   one(pair, number, take) {
     if (!Array.isArray(pair) || pair.length !== 2) throw new TypeError(`pair ${number} is no array of two lines`);

@@ -117,7 +117,7 @@ export function toldBy(options: unknown, name: string, otherwise: Telling): Tell
 }
 
 /** @param what is told, most of which `otherwise` if that isn't said */
-const boundsOf = (options: unknown, what: string, otherwise?: number): Bounds => ({
+const boundsIn = (options: unknown, what: string, otherwise?: number): Bounds => ({
   slack: wholeNumber(optionOf(options, "slack", 0), "the slack", MOST_TURNS),
   most: boundOf(options, "most", what, otherwise),
   nodes: boundOf(options, "nodes", "nodes"),
@@ -126,7 +126,7 @@ const boundsOf = (options: unknown, what: string, otherwise?: number): Bounds =>
 
 const searchOf = (step: unknown, line: unknown, options: unknown): Search => ({
   limit: wholeNumber(optionOf(options, "limit", MOST_TURNS), "the limit", MOST_TURNS),
-  ...boundsOf(options, "solutions"),
+  ...boundsIn(options, "solutions"),
   step: stringOf(step, "the step"),
   line: takenLine(line, "the line"),
 });
@@ -195,7 +195,7 @@ const ALL_AXES = [0, 1, 2];
 export const bestRequest = (scramble: unknown, options: unknown = {}): RequestOf<"best"> => ({
   ...lineAfterRequest(scramble, optionOf(options, "soFar")),
   call: "best",
-  ...boundsOf(options, "rows", MOST_TOLD),
+  ...boundsIn(options, "rows", MOST_TOLD),
   axes: ALL_AXES,
 });
 

@@ -21,7 +21,7 @@ const OF_WAYS = STEPS.slice(0, 9);
 const FIRST_ROWS = 4_096;
 const MORE_ROWS = 4;
 
-const READ = WAYS_ANSWER.read;
+const WAYS_READ = WAYS_ANSWER.read;
 
 /** The tables of all steps one after another: of one axis its orientation and the reductions after it are asked. */
 function tablesOf(instance: Instance, axis: number): Uint8Array {
@@ -47,10 +47,10 @@ function pieceFound(
   if (!hasValue(instance.status)) return refusalOfTwo(instance, scramble, soFar);
   return {
     status: instance.status as 0 | 5,
-    next: instance.answered(READ.next) === 1,
-    ways: instance.memory.copy(places[4], instance.answered(READ.rows) * WAY.bytes),
-    tried: found.tried + instance.answered(READ.tried),
-    nodes: found.nodes + instance.answered(READ.nodes),
+    next: instance.answered(WAYS_READ.next) === 1,
+    ways: instance.memory.copy(places[4], instance.answered(WAYS_READ.rows) * WAY.bytes),
+    tried: found.tried + instance.answered(WAYS_READ.tried),
+    nodes: found.nodes + instance.answered(WAYS_READ.nodes),
   };
 }
 

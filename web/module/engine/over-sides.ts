@@ -20,14 +20,14 @@ const MORE_PARTS = 4;
 /** What is asked of one length. `passed`: how many solutions are passed over; `rows`: how many have place; `nodes`: at
  * how many positions it may look; `counts`: whether those without a place are counted, as 1 or 0. */
 type Piece = { length: number; passed: number; rows: number; nodes: number; counts: number };
-type PieceFound = FoundParts & { more: boolean; solutions: number };
+type FoundOfLength = FoundParts & { more: boolean; solutions: number };
 
-const READ = SIDES_ANSWER.read;
+const SIDES_READ = SIDES_ANSWER.read;
 
 /** Asks the module for solutions of one length. */
-function pieceFound(
+function foundOfLength(
   instance: Instance, { step, line, sides }: OverSides, { length, passed, rows, nodes, counts }: Piece,
-): PieceFound | NoValue {
+): FoundOfLength | NoValue {
   const mostNodes = Math.min(nodes, Number.MAX_SAFE_INTEGER);
   const wanted = structOf(SIDES_WANTED, { sides: NUMBERS[sides], length, counts, passed, mostNodes });
   const places = instance.ask("nissy_solve_sides", [
@@ -36,17 +36,17 @@ function pieceFound(
   if (!hasValue(instance.status)) return refusal(instance, line, step);
   return {
     status: instance.status as 0 | 5,
-    more: instance.answered(READ.more) === 1,
-    parts: instance.memory.copy(places[4], instance.answered(READ.rows) * WAY_PART.bytes),
-    solutions: instance.answered(READ.solutions),
-    nodes: instance.answered(READ.nodes),
+    more: instance.answered(SIDES_READ.more) === 1,
+    parts: instance.memory.copy(places[4], instance.answered(SIDES_READ.rows) * WAY_PART.bytes),
+    solutions: instance.answered(SIDES_READ.solutions),
+    nodes: instance.answered(SIDES_READ.nodes),
   };
 }
 
 /** How many solutions of a step have exactly so many turns over the sides that are asked for, as far as it may look. */
 export function countedOverSides(instance: Instance, request: RequestOf<"countSides">): CountOfSides | NoValue {
   const piece = { length: request.limit, passed: 0, rows: 0, nodes: request.nodes, counts: 1 };
-  const found = pieceFound(instance, request, piece);
+  const found = foundOfLength(instance, request, piece);
   if (!("parts" in found)) return found;
   return { solutions: found.solutions, nodes: found.nodes, isCut: found.status === STATUS.cut };
 }
@@ -57,8 +57,8 @@ export function solvedOverSides(instance: Instance, request: RequestOf<"solveSid
   let [count, nodes, longest, isCut] = [0, 0, request.limit, false];
   let [length, passed, rows] = [0, 0, FIRST_PARTS];
   while (length <= longest && count < request.most && !isCut) {
-    const piece = { length, passed, rows: Math.min(rows, request.most - count), nodes: request.nodes - nodes, counts: 0 };
-    const found = pieceFound(instance, request, piece);
+    const bounds = { rows: Math.min(rows, request.most - count), nodes: request.nodes - nodes };
+    const found = foundOfLength(instance, request, { length, passed, ...bounds, counts: 0 });
     if (!("parts" in found)) return found;
     const taken = found.parts.length / WAY_PART.bytes;
     if (count === 0 && taken > 0) longest = Math.min(longest, length + request.slack);

@@ -6,7 +6,7 @@ import type { Request } from "../calls/requests.js";
 
 /** And how long the worker took for it. */
 export type PieceReply = AllReply & { milliseconds: number };
-/** What is told of a message, of which it has one: its reply, what was thrown, or, before some replies, how far it is. */
+/** What is told of a message, one of these: its reply, what was thrown, or, before some replies, how far it is. */
 export type Told = { id: number; reply: unknown; error: { name: string; message: string }; progress: Progress };
 
 /** What messages come from and go to: a worker itself, or its port in node. */
@@ -15,8 +15,10 @@ export type Port = {
   postMessage: (message: any, handedOver?: any[]) => void;
 };
 
+const WITH_BUFFERS = ["out", "err", "ways", "parts", "values"];
+
 /** The buffers of a reply, which needs them no longer here. */
-const buffersOf = (reply: any) => ["out", "err", "ways", "parts", "values"].flatMap((name) => reply[name]?.buffer ?? []);
+const buffersOf = (reply: any) => WITH_BUFFERS.flatMap((name) => reply[name]?.buffer ?? []);
 
 /** Answers what comes through a port, once the first message has brought the module.
  * @param answer posts the answers to a later message; what it throws is posted as an error */
