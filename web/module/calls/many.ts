@@ -67,16 +67,12 @@ export function endsAll({ each, faults }: AllRequest, { status }: OneReply) {
 /** What is told of many lines, each in its place. */
 export class ToldLines {
   #told: unknown[];
-  #request: AllRequest;
-  #one: ReadOne;
   /** The first line of which an error is thrown. */
   #failed: { index: number; error: unknown } | null = null;
 
   /** @param one reads a reply */
-  constructor(request: AllRequest, one: ReadOne) {
+  constructor(private request: AllRequest, private one: ReadOne) {
     this.#told = new Array(request.lines.length);
-    this.#request = request;
-    this.#one = one;
   }
 
   /** Takes the replies to some lines. @param begin the place of the first one */
@@ -87,15 +83,15 @@ export class ToldLines {
       const place = at * size;
       const status = values[place] === STATUS.cut ? STATUS.cut : STATUS.done;
       const seen: Seen = { status, answer: values, at: place };
-      if (!isOther.has(at)) this.#told[begin + at] = this.#one(seen, this.#request.each);
+      if (!isOther.has(at)) this.#told[begin + at] = this.one(seen, this.request.each);
     }
   }
 
   /** What is thrown of a line has its number, and so has what is told in its place. */
   #read(reply: OneReply, index: number): unknown {
-    const { each, faults } = this.#request;
+    const { each, faults } = this.request;
     try {
-      return this.#one(reply, each);
+      return this.one(reply, each);
     } catch (thrown) {
       const error = inLine(thrown, index + 1, each.call === "check");
       const isThrown = faults === "throw" || error instanceof SearchCut;

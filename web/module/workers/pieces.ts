@@ -18,12 +18,15 @@ const GROWTH = 4;
 const QUICK_LINES = 64;
 const PIECES = 2;
 
+/** From a line up to another one. */
+export type Piece = { begin: number; end: number };
+
 export class Pieces {
-  /** Where each piece begins. */ #begins: number[] = [];
   #told: ToldLines;
-  /** The pieces that were begun and aren't told. */ #open = new Set<number>();
+  /** What was begun and isn't told. */ #open = new Set<Piece>();
   /** how many lines are in a piece */ #begun = 0;
-  /** how many pieces are wanted: none behind a reply that ends the call */ #wanted = Infinity;
+  /** how many lines are wanted: none behind a piece with a reply that ends the call */ #wanted = Infinity;
+  #hasFirst = false;
   #size = FIRST_LINES;
   #least = 1;
   #done = 0;
@@ -41,33 +44,29 @@ export class Pieces {
     return (this.#isQuick ? 2 : 1) * this.workers;
   }
 
-  /** @returns the place of a piece that nobody has, or null if there is none */
-  next(): number | null {
-    const left = this.request.lines.length - this.#begun;
-    const at = this.#begins.length;
+  /** @returns a piece that nobody has, or null if there is none */
+  next(): Piece | null {
+    const begin = this.#begun;
+    const left = this.request.lines.length - begin;
     // a step that isn't there is told though there may be no line
-    if (at >= this.#wanted || (left === 0 && at > 0)) return null;
-    this.#begins.push(this.#begun);
-    this.#open.add(at);
+    if (begin >= this.#wanted || (left === 0 && this.#hasFirst)) return null;
+    this.#hasFirst = true;
     const shared = Math.max(this.#least, Math.ceil(left / (PIECES * this.workers)));
     this.#begun += Math.min(left, shared, this.#size);
-    return at;
+    const piece = { begin, end: this.#begun };
+    this.#open.add(piece);
+    return piece;
   }
 
-  requestOf(at: number): AllRequest {
-    const lines = this.request.lines.slice(this.#begins[at], this.#endOf(at));
-    return { ...this.request, lines, isPiece: true };
-  }
-
-  #endOf(at: number) {
-    return this.#begins[at + 1] ?? this.#begun;
+  requestOf({ begin, end }: Piece): AllRequest {
+    return { ...this.request, lines: this.request.lines.slice(begin, end), isPiece: true };
   }
 
   /** Learns from a worker's reply to a piece how many lines the next ones have, and whether any are wanted. Several
    * that were as long make the next ones shorter once. */
-  hear(at: number, { others, milliseconds }: PieceReply) {
-    if (others.some(([, reply]) => endsAll(this.request, reply))) this.#wanted = Math.min(this.#wanted, at + 1);
-    const lines = this.#endOf(at) - this.#begins[at];
+  hear({ begin, end }: Piece, { others, milliseconds }: PieceReply) {
+    if (others.some(([, reply]) => endsAll(this.request, reply))) this.#wanted = Math.min(this.#wanted, end);
+    const lines = end - begin;
     this.#isQuick = milliseconds <= LONG;
     if (milliseconds > LONG) this.#size = Math.min(this.#size, Math.max(1, Math.floor(lines / 2)));
     if (milliseconds >= SHORT) return;
@@ -76,16 +75,16 @@ export class Pieces {
     this.#least = QUICK_LINES;
   }
 
-  take(at: number, reply: PieceReply) {
-    this.#told.take(this.#begins[at], reply);
-    this.#done += this.#endOf(at) - this.#begins[at];
-    this.#open.delete(at);
+  take(piece: Piece, reply: PieceReply) {
+    this.#told.take(piece.begin, reply);
+    this.#done += piece.end - piece.begin;
+    this.#open.delete(piece);
   }
 
   /** Whether all is told that is wanted. */
   areWhole() {
-    const isBegun = this.#begun === this.request.lines.length && this.#begins.length > 0;
-    return (isBegun || this.#begins.length >= this.#wanted) && [...this.#open].every((at) => at >= this.#wanted);
+    const areBegun = this.#begun >= Math.min(this.#wanted, this.request.lines.length);
+    return areBegun && [...this.#open].every(({ begin }) => begin >= this.#wanted);
   }
 
   /** @returns what is told of each line, unless that is thrown */

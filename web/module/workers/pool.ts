@@ -6,7 +6,7 @@ import { STATUS } from "../engine/status.js";
 import { wholeNumber } from "../shared/bytes.js";
 import { byRank } from "../shared/ways.js";
 import { LaterCalls, unshared, type Ask } from "./later-calls.js";
-import { Pieces } from "./pieces.js";
+import { Pieces, type Piece } from "./pieces.js";
 import type { NewWorker, SentModule } from "./worker-queue.js";
 import type { RequestOf } from "../calls/requests.js";
 import type { Follow, Progress } from "../calls/signals.js";
@@ -49,18 +49,18 @@ const askAll = (pieces: Pieces, ask: Ask, tell: Follow) => new Promise<void>((wh
   let asked = 0;
   const next = () => (asked < pieces.atOnce ? pieces.next() : null);
   const askMore = () => {
-    for (let at = next(); at !== null; at = next()) {
+    for (let piece = next(); piece !== null; piece = next()) {
       asked += 1;
-      ask(pieces.requestOf(at)).then(took(at)).catch(failed);
+      ask(pieces.requestOf(piece)).then(took(piece)).catch(failed);
     }
   };
   const follow = async () => tell(pieces.progress());
-  const took = (at: number) => (reply: PieceReply) => {
+  const took = (piece: Piece) => (reply: PieceReply) => {
     asked -= 1;
-    pieces.hear(at, reply);
+    pieces.hear(piece, reply);
     // the worker goes on while the reply is read
     askMore();
-    pieces.take(at, reply);
+    pieces.take(piece, reply);
     follow().catch(failed);
     if (pieces.areWhole()) whole();
   };
