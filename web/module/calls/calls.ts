@@ -66,8 +66,6 @@ export interface Calls<Time extends When> {
   factsAll<Faults extends OnFaults = "value">(
     lines: readonly Text[], options?: Many<Faults> & ManyBesides<Time>,
   ): Answered<Time, Told<Facts, Faults>[]>;
-  /** Whether a solution solves a scramble, how many moves it counts, and which forms it has that the WCA's notation
-   * hasn't. */
   check(scramble: Text, solution: Text, ...rest: Rest<Time>): Answered<Time, Check>;
   /** The same of many pairs of a scramble and a solution, such as two columns of a table. */
   checkAll<Faults extends OnFaults = "value">(
@@ -78,18 +76,14 @@ export interface Calls<Time extends When> {
   plainLine(text: string, ...rest: Rest<Time>): Answered<Time, PlainLine>;
   /** The attempts of a text as solvers write it, at least one: a text of another form is one scramble. */
   readAttempts(text: string, ...rest: Rest<Time>): Answered<Time, Attempt[]>;
-  /** Each attempt that `readAttempts` reads in a text, with what `check` says of it, and where in the text its fault
-   * and the forms of its solution stand, and what makes one doubt the reading of one that isn't solved.
-   *
-   * With `scrambles` the text has solutions alone, each under a head with the number of its scramble in this list,
-   * such as `2.` or `Attempt 2 of 3`; or as many without numbers, in its order. There is a check for each scramble
-   * in its order, without a solution if none is found; then one for each part of the text that may be of another
-   * scramble, in doubt. */
+  /** What `check` says of each attempt that `readAttempts` reads in a text. With `scrambles` the text has solutions
+   * alone: there is a check for each scramble in its order, without a solution if none is found; then one for each part
+   * of the text that may be of another scramble, in doubt. */
   checkAttempts(text: string, options?: Known & Besides<Time>): Answered<Time, AttemptCheck[]>;
-  /** The line of the cube at which a solver stands after a scramble and the moves so far, for `facts`, `solve` and the
-   * other calls on one line: face turns, named by the centres, with the moves in brackets inverted before the scramble.
-   * They name the faces as the moves outside brackets leave the cube, as `best` reads them. The `invert` of the line is
-   * that of the inverse side. */
+  /** The line of the cube at which a solver stands after a scramble and the moves so far, for the calls on one line:
+   * face turns, named by the centres, with the moves in brackets inverted before the scramble. They name the faces as
+   * the moves outside brackets leave the cube, as `best` reads them. The `invert` of the line is that of the inverse
+   * side. */
   lineAfter(scramble: Text, soFar?: Text, ...rest: Rest<Time>): Answered<Time, string>;
   /** What may follow a scramble and the moves so far, the best first: each shortest orientation over both sides with
    * the best reduction on each axis that may follow it, over both sides too, or the reductions, if an orientation

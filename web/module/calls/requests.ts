@@ -41,12 +41,8 @@ export type RequestOf<Call extends Request["call"]> = Request & { call: Call };
  * at how many positions it looks at most, else at all. A search that would look at more is cut: `cut` says whether
  * `SearchCut` is thrown, as it is else, or what was found until then returned. */
 export type Wanted = {
-  limit?: number | undefined;
-  slack?: number | undefined;
-  most?: number | undefined;
-  nodes?: number | undefined;
-  cut?: Telling | undefined;
-};
+  [Name in "limit" | "slack" | "most" | "nodes"]?: number | undefined;
+} & { cut?: Telling | undefined };
 
 /** On which sides the moves of solutions may be: on the line alone, as they are if it isn't given, on its inverse
  * alone, or on both; each solution then says its moves on both. */
