@@ -2,7 +2,7 @@
 import { getEventListeners } from "node:events";
 import { performance } from "node:perf_hooks";
 import { Nissy, NissyWorker, loadNissy } from "../../build/web/module/node.js";
-import { WorkerCalls } from "../../build/web/module/workers/worker-calls.js";
+import { WorkerCalls } from "../../build/web/module/workers/later-calls.js";
 import { tryEach, tryLists, tryMany as tryManyLines, tryOptions, tryReadOptions, tryRows, tryWrongValues } from "./called.mjs";
 import { tryAttempts, tryBounds, tryChecks, tryMixed, tryPairs } from "./judged.mjs";
 import { ended, moduleBytes, same, text, thrown } from "./tally.mjs";

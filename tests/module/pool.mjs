@@ -13,7 +13,7 @@ import { performance } from "node:perf_hooks";
 import { NissyPool, NissyWorker } from "../../build/web/module/node.js";
 import { Nissy } from "../../build/web/module/nissy.js";
 import { WorkerPool } from "../../build/web/module/workers/pool.js";
-import { WorkerCalls } from "../../build/web/module/workers/worker-calls.js";
+import { WorkerCalls } from "../../build/web/module/workers/later-calls.js";
 import { tryEach, tryLists, tryOptions, tryReadOptions, tryRows, tryTooLong, tryWrongValues } from "./called.mjs";
 import { tryAttempts, tryBounds, tryChecks, tryMixed, tryPairs } from "./judged.mjs";
 import { TURNS, drawn, ended, moduleBytes, same, thrown } from "./tally.mjs";

@@ -1,6 +1,6 @@
 // The engine in a worker of a browser, and in several.
 import { WorkerPool } from "./workers/pool.js";
-import { WorkerCalls } from "./workers/worker-calls.js";
+import { WorkerCalls } from "./workers/later-calls.js";
 import { listenedTo } from "./workers/worker-queue.js";
 import type { ModuleSource } from "./engine/source.js";
 
@@ -9,20 +9,17 @@ export * from "./nissy.js";
 const SCRIPT = "worker.js";
 const place = () => new URL(SCRIPT, import.meta.url).href;
 
+/** Where a script of the page's own stands that imports the one of another origin, from which browsers start no worker:
+ * one for all starts. */
 let importing: string | null = null;
-
-/** Where a script of the page's own stands that imports one of another origin, from which browsers start no worker. It
- * serves each start. */
-function importedFrom(href: string) {
-  importing ??= URL.createObjectURL(new Blob([`import ${JSON.stringify(href)};`], { type: "text/javascript" }));
-  return importing;
-}
 
 /** A worker whose script stands beside this file, on the page's server or on another one. */
 function besideThis() {
   const { origin } = new URL(import.meta.url);
-  const isOfPage = origin === "null" || origin === globalThis.location?.origin;
-  if (!isOfPage) return new Worker(importedFrom(place()), { type: "module" });
+  if (origin !== "null" && origin !== globalThis.location?.origin) {
+    importing ??= URL.createObjectURL(new Blob([`import ${JSON.stringify(place())};`], { type: "text/javascript" }));
+    return new Worker(importing, { type: "module" });
+  }
   // bundlers know these words, and put the script where they lead
   return new Worker(new URL("./worker.js", import.meta.url), { type: "module" });
 }
@@ -48,9 +45,7 @@ export class NissyWorker extends WorkerCalls {
 
 /** Engines in several workers, which share many lines. */
 export class NissyPool extends WorkerPool {
-  /** Starts engines, as `NissyWorker.start` starts one.
-   * @param workers how many
-   * @param made makes a worker */
+  /** Starts engines, as `NissyWorker.start` starts one. */
   static async start(
     workers: number, source: ModuleSource | Promise<ModuleSource>, made: () => Worker = besideThis,
   ): Promise<NissyPool> {

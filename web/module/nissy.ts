@@ -1,18 +1,10 @@
-/** nissy in a page, or wherever JavaScript runs: moves and searches of the 3x3x3 cube, by the proved engine as
- * WebAssembly.
- *
- *     import { Nissy } from "./nissy.js";
- *     const nissy = await Nissy.load(fetch("nissy.wasm"));
- *     nissy.solve("eofb", "R U F"); // [{ moves: "F", length: 1 }, { moves: "F'", length: 1 }]
- *
- * A call ends before it returns: a long search belongs into a worker, as `NissyWorker` of browser.js and of node.js has
- * one. */
+// nissy wherever JavaScript runs: a call ends before it returns. A long search belongs into a worker, as `NissyWorker`
+// of browser.js and of node.js has one.
 import { takeCalls } from "./calls/call-table.js";
-import { refuseUnknown } from "./calls/options.js";
-import { OF_SOLUTIONS, runRequest, solutionsRequest } from "./calls/requests.js";
+import { OF_SOLUTIONS, refuseUnknown, runRequest, solutionsRequest } from "./calls/requests.js";
 import { progressOf } from "./calls/signals.js";
 import { solutionsBy } from "./calls/solutions-in-turn.js";
-import { Engine, type Answering } from "./engine/engine.js";
+import { Engine } from "./engine/engine.js";
 import type { Calls } from "./calls/calls.js";
 import type { ModuleSource } from "./engine/source.js";
 
@@ -36,11 +28,10 @@ export { placeOf } from "./text/written.js";
 /** The version of the scripts, and of the module that comes with them. */
 export const VERSION = "2.0.0";
 
-/** The engine, loaded. The tables of a step are built when it is asked for the first time, and stay in the module's
- * memory. After a call that broke off the next one starts the module anew, or throws `EngineMissing` if that can't be
- * done. */
+/** The engine, loaded. After a call that broke off the next one starts the module anew, or throws `EngineMissing` if
+ * that can't be done. */
 export class Nissy {
-  #engine: Answering;
+  #engine: Engine;
 
   // a field, since older hosts know no block here
   static #calls = takeCalls<Nissy>(this.prototype, (nissy, row, given) => {
@@ -59,7 +50,7 @@ export class Nissy {
     },
   });
 
-  constructor(engine: Answering) {
+  constructor(engine: Engine) {
     this.#engine = engine;
   }
 

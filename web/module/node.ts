@@ -3,7 +3,7 @@ import { readFile } from "node:fs/promises";
 import { Worker } from "node:worker_threads";
 import { Nissy } from "./nissy.js";
 import { WorkerPool } from "./workers/pool.js";
-import { WorkerCalls } from "./workers/worker-calls.js";
+import { WorkerCalls } from "./workers/later-calls.js";
 import type { ModuleSource } from "./engine/source.js";
 import type { NewWorker } from "./workers/worker-queue.js";
 
@@ -49,9 +49,7 @@ export class NissyWorker extends WorkerCalls {
 
 /** Engines in several threads, which share many lines. */
 export class NissyPool extends WorkerPool {
-  /** Starts engines, by the module beside this file if no other is given. Rejects with `EngineMissing` if the threads
-   * can't be started.
-   * @param workers how many */
+  /** Starts engines, as `NissyWorker.start` starts one. */
   static async start(workers: number, source: ModuleSource | Promise<ModuleSource> = besideThis()): Promise<NissyPool> {
     return super.startBy(workers, source, newThread);
   }

@@ -1,12 +1,11 @@
 // The table of the calls: of each how many arguments come before its options, what is asked for them, and how the reply
 // is read. All that have these calls take them from here: a row more is a call more.
-import { allOf, allRequest, pairsRequest, type AllRequest, type ReadOne } from "./many.js";
-import { optionOf } from "./options.js";
+import { LINES, PAIRS_OF_LINES, ToldLines, allRequest, type ReadOne } from "./many.js";
 import {
   attemptChecksIn, bestIn, checkIn, countIn, factsIn, lineAfterIn, lineIn, outputLinesIn, solutionsIn,
 } from "./replies.js";
 import {
-  bestRequest, checkRequest, checksRequest, countRequest, factsRequest, lineAfterRequest, lineRequest, listRequest,
+  bestRequest, checkRequest, checksRequest, countRequest, lineAfterRequest, lineRequest, listRequest, optionOf,
   runRequest, scrambleRequest, scramblesRequest, textRequest, type OfEach, type Request, type Rewriting,
 } from "./requests.js";
 import { asString } from "../shared/utf8.js";
@@ -32,14 +31,20 @@ const OF_COUNTS = ["limit", "slack", "most", "nodes", "cut"];
 const OF_LISTS = [...OF_COUNTS, "sides"];
 const OF_BEST = ["soFar", "slack", "most", "nodes", "cut"];
 
-/** A call on many lines. @param ask for all */
-const many = (takes: number, options: readonly string[], ask: (...given: any[]) => AllRequest, one: ReadOne): Row =>
-  ({ takes, options: [...options, "faults"], request: ask, read: (reply, request) => allOf(reply, request, one), one });
-
-/** The same, each of which is asked what one line may be asked, for which the empty line stands. */
-const manyLines = (
-  takes: number, options: readonly string[], each: (...given: unknown[]) => OfEach, one: ReadOne,
-) => many(takes, options, (...given) => allRequest(() => each(...given), given[takes - 1], given[takes]), one);
+/** A call on many lines, or pairs. @param each what one line may be asked, for which the empty line stands */
+const many = (
+  takes: number, options: readonly string[], each: (...given: unknown[]) => OfEach, one: ReadOne, kind = LINES,
+): Row => ({
+  takes,
+  options: [...options, "faults"],
+  request: (...given) => allRequest(each(...given), kind, given[takes - 1], given[takes]),
+  read(reply, request) {
+    const told = new ToldLines(request, one);
+    told.take(0, reply);
+    return told.all();
+  },
+  one,
+});
 
 export const TABLE: Record<Exclude<keyof Calls<"now">, "solutions">, Row> = {
   invert: rewriting("invert"),
@@ -50,19 +55,19 @@ export const TABLE: Record<Exclude<keyof Calls<"now">, "solutions">, Row> = {
   tokens: rewriting("unniss", (reply, { line }) => (lineIn(reply), tokensOf(asString(line)))),
   formPlaces: rewriting("unniss", (reply, { line }) => (lineIn(reply), formPlacesOf(asString(line)))),
   solve: { takes: 2, options: OF_LISTS, request: listRequest, read: solutionsIn },
-  solveAll: manyLines(2, OF_LISTS, (step, _, options) => listRequest(step, "", options), solutionsIn),
+  solveAll: many(2, OF_LISTS, (step, _, options) => listRequest(step, "", options), solutionsIn),
   count: { takes: 2, options: OF_COUNTS, request: countRequest, read: countIn },
-  countAll: manyLines(2, OF_COUNTS, (step, _, options) => countRequest(step, "", options), countIn),
-  facts: { takes: 1, request: factsRequest, read: factsIn },
-  factsAll: manyLines(1, [], () => factsRequest(""), factsIn),
+  countAll: many(2, OF_COUNTS, (step, _, options) => countRequest(step, "", options), countIn),
+  facts: { takes: 1, request: (line) => lineRequest("facts", line), read: factsIn },
+  factsAll: many(1, [], () => lineRequest("facts", ""), factsIn),
   check: { takes: 2, request: checkRequest, read: checkIn },
-  checkAll: many(1, [], (pairs, options) => pairsRequest(() => checkRequest("", ""), pairs, options), checkIn),
+  checkAll: many(1, [], () => checkRequest("", ""), checkIn, PAIRS_OF_LINES),
   plainLine: { takes: 1, request: (text) => textRequest("plainLine", text), read: (reply) => reply },
   readAttempts: { takes: 1, request: (text) => textRequest("readAttempts", text), read: (reply) => reply },
   checkAttempts: { takes: 1, options: ["scrambles"], request: checksRequest, read: attemptChecksIn },
   lineAfter: { takes: 2, request: lineAfterRequest, read: lineAfterIn },
   best: { takes: 1, options: OF_BEST, request: bestRequest, read: bestIn, isFollowed: true },
-  bestAll: manyLines(1, OF_BEST, (_, options) => bestRequest("", options), bestIn),
+  bestAll: many(1, OF_BEST, (_, options) => bestRequest("", options), bestIn),
   scramble: { takes: 3, request: scrambleRequest, read: lineIn },
   scrambles: { takes: 4, request: scramblesRequest, read: outputLinesIn },
   run: {

@@ -13,14 +13,12 @@ import type { Followed, Stoppable } from "./signals.js";
 /** Whether calls end before they return, or promise what a worker, or one of a pool of them, tells. */
 export type When = "now" | "worker" | "pool";
 
-/** What is told. */
 export type Answered<Time extends When, Value> = Time extends "now" ? Value : Promise<Value>;
 /** What a call may be given besides: later a signal, and of many lines in a pool what is told of the progress. */
 export type Besides<Time extends When> = Time extends "now" ? unknown : Stoppable;
 export type ManyBesides<Time extends When> = Time extends "pool" ? Followed & Stoppable : Besides<Time>;
 /** The same of a call without options of its own. */
 export type Rest<Time extends When> = Time extends "now" ? [] : [options?: Stoppable];
-/** What is gone through. */
 export type Listed<Time extends When, Value> = Time extends "now" ? Generator<Value, void, undefined>
   : AsyncGenerator<Value, void, undefined>;
 /** If `room` is given, the output has room for so many bytes, and the run is made once. */
@@ -30,10 +28,9 @@ export type RunRest<Time extends When> = Time extends "now" ? [room?: number]
 /** Each call throws a `TypeError` if it is given something of another type, and a `RangeError` for a number out of its
  * range, a step that isn't there, or if the host has no memory for the call. A call that reads a line throws
  * `NissyFault` if it can't be read, and a search `SearchCut` if it would look at more positions than it may. Of many
- * lines each fault, which says in which it is, stands in its place, or the first is thrown. What is thrown at once, a
- * promise is rejected with. */
+ * lines each fault, which says in which it is, stands in its place, or the first is thrown; of two lines its `line` is
+ * 1 for the scramble, and its `part` names it. What is thrown at once, a promise is rejected with. */
 export interface Calls<Time extends When> {
-  /** The inverse of a line's moves. */
   invert(line: Text, ...rest: Rest<Time>): Answered<Time, string>;
   /** A line's moves as one sequence: those in brackets inverted at the end. */
   unniss(line: Text, ...rest: Rest<Time>): Answered<Time, string>;
@@ -41,7 +38,6 @@ export interface Calls<Time extends When> {
   cleanup(line: Text, ...rest: Rest<Time>): Answered<Time, string>;
   /** The 54 letters of the cube after a line's moves, as the program's `print` shows them. */
   facelets(line: Text, ...rest: Rest<Time>): Answered<Time, string>;
-  /** The moves of a line as they are written, one after another. */
   tokens(line: Text, ...rest: Rest<Time>): Answered<Time, Token[]>;
   /** Where a line has forms that the WCA's notation for solutions hasn't: those of its places together are the `forms`
    * of `check`. */
@@ -55,28 +51,21 @@ export interface Calls<Time extends When> {
   solutions<Name extends string>(
     step: StepName<Name>, line: Text, options?: Pick<Wanted, "limit" | "slack"> & Besides<Time>,
   ): Listed<Time, Solution>;
-  /** The same of many lines. */
   solveAll<Name extends string, Faults extends OnFaults = "value", On extends Sides | undefined = undefined>(
     step: StepName<Name>, lines: readonly Text[],
     options?: Wanted & OnSides<On> & Many<Faults> & ManyBesides<Time>,
   ): Answered<Time, Told<SolutionsOn<On>, Faults>[]>;
-  /** How many solutions there are. */
   count<Name extends string>(
     step: StepName<Name>, line: Text, options?: Wanted & Besides<Time>,
   ): Answered<Time, Count>;
-  /** The same of many lines. */
   countAll<Name extends string, Faults extends OnFaults = "value">(
     step: StepName<Name>, lines: readonly Text[], options?: Wanted & Many<Faults> & ManyBesides<Time>,
   ): Answered<Time, Told<Count, Faults>[]>;
-  /** What is seen of the cube after a line's moves without a search: whether it is solved, how many moves the line
-   * counts, the bad pieces and the case on each axis, and which steps hold. */
+  /** What is seen of the cube after a line's moves without a search. */
   facts(line: Text, ...rest: Rest<Time>): Answered<Time, Facts>;
-  /** The same of many lines. */
   factsAll<Faults extends OnFaults = "value">(
     lines: readonly Text[], options?: Many<Faults> & ManyBesides<Time>,
   ): Answered<Time, Told<Facts, Faults>[]>;
-  /** Whether a solution solves a scramble, how many moves it counts, and which forms it has that the WCA's notation
-   * hasn't. The `line` of a fault is 1 for the scramble and 2 for the solution. */
   check(scramble: Text, solution: Text, ...rest: Rest<Time>): Answered<Time, Check>;
   /** The same of many pairs of a scramble and a solution, such as two columns of a table. */
   checkAll<Faults extends OnFaults = "value">(
@@ -85,28 +74,21 @@ export interface Calls<Time extends When> {
   /** A text as solvers write it as one line: without labels, comments, and numbers of lines and moves. `placeOf` says
    * where a fault or a form of the line stands in the text. */
   plainLine(text: string, ...rest: Rest<Time>): Answered<Time, PlainLine>;
-  /** The attempts of a text as solvers write it, at least one: a scramble, then the steps of its solution, each on a
-   * line with a comment or a label, and blocks of candidates after blank lines; and the same of several scrambles. A
-   * text of another form is one scramble. */
+  /** The attempts of a text as solvers write it, at least one: a text of another form is one scramble. */
   readAttempts(text: string, ...rest: Rest<Time>): Answered<Time, Attempt[]>;
-  /** Each attempt that `readAttempts` reads in a text, with what `check` says of it, and where in the text its fault
-   * and the forms of its solution stand, and what makes one doubt the reading of one that isn't solved.
-   *
-   * With `scrambles` the text has solutions alone, each under a head with the number of its scramble in this list,
-   * such as `2.` or `Attempt 2 of 3`; or as many without numbers, in its order. There is a check for each scramble
-   * in its order, without a solution if none is found; then one for each part of the text that may be of another
-   * scramble, in doubt. */
+  /** What `check` says of each attempt that `readAttempts` reads in a text. With `scrambles` the text has solutions
+   * alone: there is a check for each scramble in its order, without a solution if none is found; then one for each part
+   * of the text that may be of another scramble, in doubt. */
   checkAttempts(text: string, options?: Known & Besides<Time>): Answered<Time, AttemptCheck[]>;
-  /** The line of the cube at which a solver stands after a scramble and the moves so far, for `facts`, `solve` and the
-   * other calls on one line: face turns, named by the centres, with the moves in brackets inverted before the scramble.
-   * They name the faces as the moves outside brackets leave the cube, as `best` reads them. The `invert` of the line is
-   * that of the inverse side. A fault is told as `best` tells it. */
+  /** The line of the cube at which a solver stands after a scramble and the moves so far, for the calls on one line:
+   * face turns, named by the centres, with the moves in brackets inverted before the scramble. They name the faces as
+   * the moves outside brackets leave the cube, as `best` reads them. The `invert` of the line is that of the inverse
+   * side. */
   lineAfter(scramble: Text, soFar?: Text, ...rest: Rest<Time>): Answered<Time, string>;
   /** What may follow a scramble and the moves so far, the best first: each shortest orientation over both sides with
    * the best reduction on each axis that may follow it, over both sides too, or the reductions, if an orientation
-   * holds. There are none after a reduction. A fault is told as `check` tells it. */
+   * holds. There are none after a reduction. */
   best(scramble: Text, options?: BestWanted & Followed & Besides<Time>): Answered<Time, Best>;
-  /** The same of many scrambles. */
   bestAll<Faults extends OnFaults = "value">(
     scrambles: readonly Text[], options?: BestWanted & Many<Faults> & ManyBesides<Time>,
   ): Answered<Time, Told<Best, Faults>[]>;

@@ -1,9 +1,9 @@
 // What is asked of many lines, and what is told of them: a value of each, or a fault in its place, or the first fault
 // thrown.
 import { eachOf, readableLine, takenLine, type Text } from "../shared/bytes.js";
-import { NissyFault, SearchCut, faultInPair } from "../shared/faults.js";
+import { SearchCut, inLine, type NissyFault } from "../shared/faults.js";
 import { STATUS } from "../engine/status.js";
-import { inLine, type OneReply, type Seen } from "./replies.js";
+import type { OneReply, Seen } from "./replies.js";
 import { toldBy, type OfEach, type Pair, type Telling } from "./requests.js";
 
 /** What is asked of each line, or pair, whose own line is none, or null for one of too many bytes; `isPiece`: the
@@ -35,37 +35,28 @@ export type Many<Faults extends OnFaults = OnFaults> = { faults?: Faults };
  * that thrown. */
 export type Told<Value, Faults> = Faults extends "throw" ? Value : Value | NissyFault | RangeError;
 
-/** One of many lines. @param number from 1 */
-const lineOf = (line: unknown, number: number, take: typeof readableLine) => take(line, `line ${number}`);
+/** What there are many of: their name, and how one is taken, by its number from 1. */
+type Kind = { name: string; one: (value: unknown, number: number, take: typeof readableLine) => Text | Pair | null };
 
-/** One of many pairs. */
-function pairOf(pair: unknown, number: number, take: typeof readableLine): Pair {
-  if (!Array.isArray(pair) || pair.length !== 2) throw new TypeError(`pair ${number} is no array of two lines`);
-  const [scramble, solution] = pair;
-  return {
-    scramble: take(scramble, `the scramble of pair ${number}`),
-    solution: take(solution, `the solution of pair ${number}`),
-  };
-}
+export const LINES: Kind = { name: "lines", one: (line, number, take) => take(line, `line ${number}`) };
 
-/** @param what they are
- * @param each what is asked of each
- * @param one takes one of them */
-function requestOfMany(
-  what: "lines" | "pairs", each: () => OfEach, values: unknown, options: unknown, one: typeof lineOf | typeof pairOf,
-): AllRequest {
-  if (!Array.isArray(values)) throw new TypeError(`the ${what} are no array`);
-  const asked = each();
+export const PAIRS_OF_LINES: Kind = {
+  name: "pairs",
+  one(pair, number, take) {
+    if (!Array.isArray(pair) || pair.length !== 2) throw new TypeError(`pair ${number} is no array of two lines`);
+    const [scramble, solution] = ["scramble", "solution"].map((name, at) =>
+      take(pair[at], `the ${name} of pair ${number}`));
+    return { scramble, solution };
+  },
+};
+
+/** @param each what is asked of each */
+export function allRequest(each: OfEach, { name, one }: Kind, values: unknown, options: unknown = {}): AllRequest {
+  if (!Array.isArray(values)) throw new TypeError(`the ${name} are no array`);
   const faults = toldBy(options, "faults", "value");
   const take = faults === "value" ? readableLine : takenLine;
-  return { call: "all", each: asked, faults, lines: eachOf(values, (value, index) => one(value, index + 1, take)) };
+  return { call: "all", each, faults, lines: eachOf(values, (value, index) => one(value, index + 1, take)) };
 }
-
-export const allRequest = (each: () => OfEach, lines: unknown, options: unknown = {}) =>
-  requestOfMany("lines", each, lines, options, lineOf);
-
-export const pairsRequest = (each: () => OfEach, pairs: unknown, options: unknown = {}) =>
-  requestOfMany("pairs", each, pairs, options, pairOf);
 
 /** Whether the reply for a line of many ends the call, so that no line behind it is answered. */
 export function endsAll({ each, faults }: AllRequest, { status }: OneReply) {
@@ -73,40 +64,45 @@ export function endsAll({ each, faults }: AllRequest, { status }: OneReply) {
   return status !== STATUS.done && faults === "throw";
 }
 
-/** What is told of a line of many. What is thrown of one has its number, and so has what is told in its place.
- * @returns a value, or a fault if they are told so */
-export function toldOf(reply: OneReply, index: number, { each, faults }: AllRequest, one: ReadOne): unknown {
-  try {
-    return one(reply, each);
-  } catch (thrown) {
-    const isOfPair = each.call === "check" && thrown instanceof NissyFault;
-    const error = isOfPair ? faultInPair(thrown, index + 1) : inLine(thrown, index + 1);
-    if (faults === "throw" || error instanceof SearchCut) throw error;
-    return error;
+/** What is told of many lines, each in its place. */
+export class ToldLines {
+  #told: unknown[];
+  /** The first line of which an error is thrown. */
+  #failed: { index: number; error: unknown } | null = null;
+
+  /** @param one reads a reply */
+  constructor(private request: AllRequest, private one: ReadOne) {
+    this.#told = new Array(request.lines.length);
+  }
+
+  /** Takes the replies to some lines. @param begin the place of the first one */
+  take(begin: number, { count, size, values, others }: AllReply) {
+    for (const [at, reply] of others) this.#told[begin + at] = this.#read(reply, begin + at);
+    const isOther = new Set(others.map(([at]) => at));
+    for (let at = 0; size > 0 && at < count; at += 1) {
+      const place = at * size;
+      const status = values[place] === STATUS.cut ? STATUS.cut : STATUS.done;
+      const seen: Seen = { status, answer: values, at: place };
+      if (!isOther.has(at)) this.#told[begin + at] = this.one(seen, this.request.each);
+    }
+  }
+
+  /** What is thrown of a line has its number, and so has what is told in its place. */
+  #read(reply: OneReply, index: number): unknown {
+    const { each, faults } = this.request;
+    try {
+      return this.one(reply, each);
+    } catch (thrown) {
+      const error = inLine(thrown, index + 1, each.call === "check");
+      const isThrown = faults === "throw" || error instanceof SearchCut;
+      if (isThrown && (this.#failed?.index ?? Infinity) > index) this.#failed = { index, error };
+      return error;
+    }
+  }
+
+  /** @returns what is told of each line, unless that is thrown */
+  all(): unknown[] {
+    if (this.#failed !== null) throw this.#failed.error;
+    return this.#told;
   }
 }
-
-/** Puts what is told in its places.
- * @param begin the place of the first line
- * @param other reads one of the other replies, by the place of its line */
-export function putTold(
-  told: unknown[], begin: number, { count, size, values, others }: AllReply, one: (reply: Seen) => unknown,
-  other: (reply: OneReply, index: number) => unknown,
-) {
-  // the first that is thrown is that of the first line
-  for (const [at, reply] of others) told[begin + at] = other(reply, begin + at);
-  const isOther = new Set(others.map(([at]) => at));
-  for (let at = 0; size > 0 && at < count; at += 1) {
-    const place = at * size;
-    const status = values[place] === STATUS.cut ? STATUS.cut : STATUS.done;
-    if (!isOther.has(at)) told[begin + at] = one({ status, answer: values, at: place });
-  }
-}
-
-/** What is told of each line. */
-export function allOf(reply: AllReply, request: AllRequest, one: ReadOne): unknown[] {
-  const told: unknown[] = new Array(reply.count);
-  putTold(told, 0, reply, (seen) => one(seen, request.each), (each, index) => toldOf(each, index, request, one));
-  return told;
-}
-

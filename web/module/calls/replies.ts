@@ -1,27 +1,19 @@
 // Reads what the engine writes as values, or throws what is wrong.
-import { NissyFault, SearchCut, cutOfAll, faultInLine, withoutTraces } from "../shared/faults.js";
-import { SEARCH_ANSWER } from "../shared/layout.js";
+import { AXES, CORNER_PLACES, EDGE_PLACES, FORMS, type Check, type Facts } from "../shared/facts.js";
+import { NissyFault, SearchCut, withoutTraces } from "../shared/faults.js";
+import { AXIS_FACTS, CHECK_ANSWER, FACTS_ANSWER, SEARCH_ANSWER } from "../shared/layout.js";
+import { STEPS } from "../shared/steps.js";
 import { textIn } from "../shared/utf8.js";
-import { checkFrom, factsFrom } from "./facts-read.js";
 import { bothSidesIn, waysIn, type BestRow, type BestStep } from "../shared/ways.js";
 import { START_FAULT, STATUS, hasValue } from "../engine/status.js";
-import type { Check, Facts } from "../shared/facts.js";
 import type { Attempt, AttemptDoubt } from "../text/attempts.js";
 import type { FormInText, SeenAttempt } from "../text/attempt-checks.js";
 import type { Sides, Telling } from "./requests.js";
 import type { TextPlace } from "../text/written.js";
 
-/** What a run returns. */
-export type Answer = {
-  /** The exit status of the program, 0 to 3. */
-  status: number;
-  /** The output. */
-  out: Uint8Array;
-  /** The error text. */
-  err: Uint8Array;
-  /** Whether the output was longer than the greatest room for it; `out` is then a beginning of it. */
-  full: boolean;
-};
+/** What a run returns: the exit status of the program, 0 to 3, its output, and its error text; `full`: whether the
+ * output was longer than the greatest room for it, and `out` is a beginning of it. */
+export type Answer = { status: number; out: Uint8Array; err: Uint8Array; full: boolean };
 
 /** A solution: its moves, and how many turns they are. */
 export type Solution = { moves: string; length: number };
@@ -30,10 +22,8 @@ export type Solution = { moves: string; length: number };
  * Those of a search that was cut begin its list, and `cut` is there. */
 export type Solutions = Solution[] & { readonly more: boolean; readonly nodes: number; cut?: true };
 
-/** Those over both sides. */
 export type SideSolutions = BestStep[] & { cut?: true };
 
-/** What `solve` tells, whether sides are asked for or not. */
 export type SolutionsOn<On extends Sides | undefined> = On extends string ? SideSolutions : Solutions;
 
 /** How many solutions there are: the least length, null if there are none, and at how many positions the search looked.
@@ -48,24 +38,20 @@ export type LineFault = { status: 1; fault: 1 | 2 | 3 | 4 | 5; column: number; c
  */
 export type StartFault = { status: 1; fault: 6; step: string; start: string; text: string };
 
-/** A call that the module refused: a number out of its range, a line that is too long, or too little room. */
-export type Refused = { status: 2 | 3 | 4 };
-
-/** How a call on a line ended that has no value. */
-export type NoValue = LineFault | StartFault | Refused;
+/** How a call on a line ended that has no value: at a fault, or refused for a number out of its range, a line that is
+ * too long, or too little room. */
+export type NoValue = LineFault | StartFault | { status: 2 | 3 | 4 };
 /** Of a call on two lines, of which `line` is at fault: 1, the first, or 2. */
 export type OfTwo = NoValue & { line: number };
 /** The struct of an answer with a value, which stands at a place of some bytes. */
 export type Seen = { status: 0 | 5; answer: Uint8Array; at: number };
-/** Of a call that writes. */
 export type LineReply = { status: 0; out: string } | NoValue;
 export type SolveReply = Seen & { out: string } | NoValue;
 export type SolveBytesReply = Seen & { out: Uint8Array } | NoValue;
 /** How many there are of one length, if the search wasn't cut. */
 export type CountOfSides = { solutions: number; nodes: number; isCut: boolean };
-/** The rows that were found, as the module has them, and at how many positions it looked. */
+/** The rows that were found, as the module has them, and at how many positions it looked; `tried`: how many ways on. */
 export type FoundParts = { status: 0 | 5; parts: Uint8Array; nodes: number };
-/** The same of ways on; `tried`: how many were. */
 export type FoundWays = { ways: Uint8Array; tried: number; nodes: number };
 export type BestReply = FoundWays & { status: 0 | 5 } | OfTwo;
 
@@ -96,20 +82,15 @@ const NAMES_OF_BEST = ["scramble", "moves so far"];
 const BRACKET = "(".charCodeAt(0);
 const ZERO = "0".charCodeAt(0);
 
-function faultIn(reply: LineFault | StartFault): NissyFault {
-  if (reply.fault !== START_FAULT) return new NissyFault(reply.text, reply);
-  const { step, start, text } = reply;
-  return new NissyFault(`${start} ${text}`, { step, start });
-}
-
-/** @param what the line is called
+/** @param names of the lines, if they are two
  * @returns what is wrong */
-function errorIn(reply: NoValue, what = "line"): Error {
+function errorIn(reply: NoValue & { line?: number }, names: readonly string[]): Error {
+  const part = names[Number(reply.line) - 1] ?? "";
   switch (reply.status) {
     case STATUS.fault:
-      return faultIn(reply);
+      return new NissyFault(reply.fault === START_FAULT ? `${reply.start} ${reply.text}` : reply.text, reply, part);
     case STATUS.stopped:
-      return new RangeError(`the ${what} has more bytes than the engine reads`);
+      return new RangeError(`the ${part || "line"} has more bytes than the engine reads`);
     case STATUS.room:
       return new RangeError("there are more solutions than there is room for: ask for fewer");
     default:
@@ -117,16 +98,11 @@ function errorIn(reply: NoValue, what = "line"): Error {
   }
 }
 
-/** What is thrown of one of two lines, which have names. */
-function errorOfTwo(reply: OfTwo, names: readonly string[]): Error {
-  const part = names[reply.line - 1];
-  const error = errorIn(reply, part);
-  return error instanceof NissyFault ? faultInLine(error, reply.line, part) : error;
-}
-
 /** @returns the same, which has a value */
-function withValue<Reply extends { status: number }>(reply: Reply): Exclude<Reply, NoValue> {
-  if (!hasValue(reply.status)) throw errorIn(reply as unknown as NoValue);
+export function withValue<Reply extends { status: number }>(
+  reply: Reply, names: readonly string[] = [],
+): Exclude<Reply, NoValue> {
+  if (!hasValue(reply.status)) throw errorIn(reply as unknown as NoValue, names);
   return reply as Exclude<Reply, NoValue>;
 }
 
@@ -194,49 +170,83 @@ export function countIn(reply: Seen | NoValue, { cut }: { cut: Telling }): Count
   return cutOr(seen.status, cut, count, () => new SearchCut(count, null));
 }
 
-export const factsIn = (reply: Seen | NoValue): Facts => {
-  const { answer, at } = withValue(reply);
-  return factsFrom(answer, at);
-};
-
-export function checkIn(reply: Seen | OfTwo): Check {
-  if (!("answer" in reply)) throw errorOfTwo(reply, NAMES_OF_CHECK);
-  return checkFrom(reply.answer, reply.at);
+/** Reads masks: the names whose bits are 1, in an array that each caller gets for this mask, and none can change. */
+function maskReader<Name>(names: readonly Name[]): (mask: number) => readonly Name[] {
+  const known: (readonly Name[] | undefined)[] = Array.from({ length: 1 << names.length });
+  return (mask) => (known[mask] ??= Object.freeze(names.filter((_, at) => ((mask >> at) & 1) === 1)));
 }
+
+const edgesIn = maskReader(EDGE_PLACES);
+const cornersIn = maskReader(CORNER_PLACES);
+const stepsIn = maskReader(STEPS);
+const formsIn = maskReader(FORMS);
+
+/** The cases by how many corners and edges they have, since a text of its own for each line takes longer. */
+const CASES = Array.from({ length: CORNER_PLACES.length + 1 }, (_, corners) =>
+  Array.from({ length: EDGE_PLACES.length + 1 }, (__, edges) => `${corners}c${edges}e`));
+
+const caseAt = (bytes: Uint8Array, axis: number) =>
+  CASES[AXIS_FACTS.read.badCorners(bytes, axis)][AXIS_FACTS.read.misplacedEdges(bytes, axis)];
+
+const [FB, RL, UD] = AXES.map((_, at) => FACTS_ANSWER.at.axes + at * AXIS_FACTS.bytes);
+
+/** The facts in the struct at a place. One function makes all objects of a line: so those of many lines take the host
+ * half as long. */
+function factsFrom({ answer: bytes, at }: Seen): Facts {
+  const { solved, moves, cleanMoves, holds } = FACTS_ANSWER.read;
+  const { badEdgePlaces: edges, badCornerPlaces: corners, misplacedEdgePlaces: misplaced } = AXIS_FACTS.read;
+  const fb = at + FB;
+  const rl = at + RL;
+  const ud = at + UD;
+  return {
+    solved: solved(bytes, at) === 1,
+    moves: moves(bytes, at),
+    cleanMoves: cleanMoves(bytes, at),
+    badEdges: { fb: edgesIn(edges(bytes, fb)), rl: edgesIn(edges(bytes, rl)), ud: edgesIn(edges(bytes, ud)) },
+    badCorners: {
+      fb: cornersIn(corners(bytes, fb)), rl: cornersIn(corners(bytes, rl)), ud: cornersIn(corners(bytes, ud)),
+    },
+    misplacedEdges: {
+      fb: edgesIn(misplaced(bytes, fb)), rl: edgesIn(misplaced(bytes, rl)), ud: edgesIn(misplaced(bytes, ud)),
+    },
+    case: { fb: caseAt(bytes, fb), rl: caseAt(bytes, rl), ud: caseAt(bytes, ud) },
+    holds: stepsIn(holds(bytes, at)),
+  };
+}
+
+/** What is told of a solution in the struct at a place. */
+const checkFrom = ({ answer: bytes, at }: Seen): Check => ({
+  solved: CHECK_ANSWER.read.solved(bytes, at) === 1,
+  moves: CHECK_ANSWER.read.moves(bytes, at),
+  cleanMoves: CHECK_ANSWER.read.cleanMoves(bytes, at),
+  forms: formsIn(CHECK_ANSWER.read.forms(bytes, at)),
+});
+
+export const factsIn = (reply: Seen | NoValue): Facts => factsFrom(withValue(reply));
+
+export const checkIn = (reply: Seen | OfTwo): Check => checkFrom(withValue(reply, NAMES_OF_CHECK));
 
 function attemptCheckIn({ attempt, seen, place, forms, doubt }: SeenAttempt): AttemptCheck {
   const told: AttemptCheck = { attempt, place, forms, doubt, check: null, fault: null };
   if (seen === null) return told;
   if ("answer" in seen) {
-    if (attempt.solution !== null) told.check = checkFrom(seen.answer, seen.at);
+    if (attempt.solution !== null) told.check = checkFrom(seen);
     return told;
   }
-  if (seen.status !== STATUS.fault) throw errorOfTwo(seen, NAMES_OF_CHECK);
-  told.fault = new NissyFault(seen.text, seen, NAMES_OF_CHECK[seen.line - 1]);
+  const error = errorIn(seen, NAMES_OF_CHECK);
+  if (!(error instanceof NissyFault)) throw error;
+  told.fault = error;
   return told;
 }
 
 export const attemptChecksIn = (replies: SeenAttempt[]): AttemptCheck[] =>
   withoutTraces(() => replies.map(attemptCheckIn));
 
-export function lineAfterIn(reply: LineReply | OfTwo): string {
-  if ("out" in reply) return reply.out;
-  throw errorOfBest(reply as OfTwo);
-}
+export const lineAfterIn = (reply: LineReply | OfTwo): string => withValue(reply, NAMES_OF_BEST).out;
 
-export function bestIn(reply: BestReply | NoValue, { cut }: { cut: Telling }): Best {
-  if (!("ways" in reply)) throw "line" in reply ? errorOfBest(reply) : errorIn(reply);
-  const best: Best = Object.assign(waysIn(reply.ways), { nodes: reply.nodes });
-  return cutOr(reply.status, cut, best, () => cutOfAll(reply.nodes));
-}
-
-/** What is thrown of a scramble or of the moves so far: also one of too many bytes has the number of its line. */
-const errorOfBest = (reply: OfTwo) => inLine(errorIn(reply), reply.line, NAMES_OF_BEST[reply.line - 1]);
-
-/** What is wrong, with the number of the line in which it is.
- * @param part what a fault calls the line, if not by its number */
-export function inLine(error: unknown, line: number, part?: string) {
-  if (error instanceof NissyFault) return faultInLine(error, line, part);
-  if (error instanceof SearchCut) return new SearchCut(error.count, error.found, line);
-  return error instanceof RangeError ? new RangeError(`line ${line}: ${error.message}`) : error;
+export function bestIn(reply: BestReply, { cut }: { cut: Telling }): Best {
+  const { status, ways, nodes } = withValue(reply, NAMES_OF_BEST);
+  const best: Best = Object.assign(waysIn(ways), { nodes });
+  // the cut of several searches together, which tells of none of them
+  return cutOr(status, cut, best, () => new SearchCut({ length: null, solutions: 0, nodes }, null));
 }

@@ -3,63 +3,46 @@ import {
   bytesOf, eachOf, joinedWords, stringOf, takenLine, wholeNumber, wideNumber, type Text,
 } from "../shared/bytes.js";
 import { asString } from "../shared/utf8.js";
-import { optionOf } from "./options.js";
 import type { AllRequest } from "./many.js";
 
-/** What is made of a line. */
 export type Rewriting = "invert" | "unniss" | "cleanup" | "facelets";
-export type RunRequest = { call: "run"; words: Uint8Array; input: Uint8Array; room: number | undefined };
-export type LineRequest = { call: Rewriting; line: Text };
 /** Whether something is thrown, or told in the place of an answer. */
 export type Telling = "throw" | "value";
-export type Search = {
-  step: string;
-  line: Text;
-  limit: number;
-  slack: number;
-  most: number;
-  nodes: number;
-  cut: Telling;
-};
-export type CountRequest = Search & { call: "count" };
-/** `after`: the solution behind which the list begins. */
-export type SolveRequest = Search & { call: "solve"; after?: string };
 /** On which the moves of a solution may be. */
 export type Sides = "normal" | "inverse" | "both";
-export type SidesRequest = Search & { call: "solveSides"; sides: Sides };
-export type CountSidesRequest = Search & { call: "countSides"; sides: Sides };
-export type FactsRequest = { call: "facts"; line: Text };
-export type CheckRequest = { call: "check"; scramble: Text; solution: Text };
-export type BestRequest = Pick<Search, "slack" | "most" | "nodes" | "cut">
-  & { call: "best"; scramble: Text; soFar: Text; axes: readonly number[] };
-export type LineAfterRequest = { call: "lineAfter"; scramble: Text; soFar: Text };
-export type ReadingRequest = { call: "plainLine" | "readAttempts" | "checkAttempts"; text: string };
-/** Of known scrambles. */
-export type SolutionsRequest = { call: "checkSolutions"; text: string; scrambles: string[] };
-export type TextRequest = ReadingRequest | SolutionsRequest;
-export type ScrambleRequest = { call: "scramble"; state: bigint; stream: bigint; length: number };
-export type StepsRequest = { call: "steps" };
-/** What many lines may be asked. */
-export type OfEach = CountRequest | SolveRequest | SidesRequest | FactsRequest | BestRequest | CheckRequest;
 /** What `check` is given; null is one of too many bytes. */
 export type Pair = { scramble: Text | null; solution: Text | null };
-export type OneRequest = RunRequest | LineRequest | OfEach | CountSidesRequest | LineAfterRequest | ScrambleRequest
-  | StepsRequest;
-/** What an engine is asked. */
-export type Request = OneRequest | TextRequest | AllRequest;
 
-/** How far a step is searched: `limit`, the most turns of a solution, 20 at most and if it isn't given; `slack`, how
- * many turns more than the shortest a solution may have, none if it isn't given; `most`, after how many solutions the
- * search ends, after all if it isn't given; `nodes`, at how many positions it looks at most, at as many as there are if
- * it isn't given. A search that would look at more is cut: `cut` says whether `SearchCut` is thrown, as it is if it
- * isn't given, or what was found until then returned. */
+type Bounds = { slack: number; most: number; nodes: number; cut: Telling };
+export type Search = Bounds & { step: string; line: Text; limit: number };
+/** `after`: the solution behind which the list begins. */
+export type SolveRequest = Search & { call: "solve"; after?: string };
+/** What many lines may be asked. */
+export type OfEach = SolveRequest
+  | Search & { call: "count" }
+  | Search & { call: "solveSides"; sides: Sides }
+  | Bounds & { call: "best"; scramble: Text; soFar: Text; axes: readonly number[] }
+  | { call: "facts"; line: Text }
+  | { call: "check"; scramble: Text; solution: Text };
+/** What an engine is asked. `checkSolutions` is of known scrambles. */
+export type Request = OfEach | AllRequest
+  | Search & { call: "countSides"; sides: Sides }
+  | { call: "run"; words: Uint8Array; input: Uint8Array; room: number | undefined }
+  | { call: Rewriting; line: Text }
+  | { call: "lineAfter"; scramble: Text; soFar: Text }
+  | { call: "plainLine" | "readAttempts" | "checkAttempts"; text: string }
+  | { call: "checkSolutions"; text: string; scrambles: string[] }
+  | { call: "scramble"; state: bigint; stream: bigint; length: number }
+  | { call: "steps" };
+export type RequestOf<Call extends Request["call"]> = Request & { call: Call };
+
+/** How far a step is searched: `limit`, the most turns of a solution, at most and else 20; `slack`, how many turns more
+ * than the shortest it may have, else none; `most`, after how many solutions the search ends, else after all; `nodes`,
+ * at how many positions it looks at most, else at all. A search that would look at more is cut: `cut` says whether
+ * `SearchCut` is thrown, as it is else, or what was found until then returned. */
 export type Wanted = {
-  limit?: number | undefined;
-  slack?: number | undefined;
-  most?: number | undefined;
-  nodes?: number | undefined;
-  cut?: Telling | undefined;
-};
+  [Name in "limit" | "slack" | "most" | "nodes"]?: number | undefined;
+} & { cut?: Telling | undefined };
 
 /** On which sides the moves of solutions may be: on the line alone, as they are if it isn't given, on its inverse
  * alone, or on both; each solution then says its moves on both. */
@@ -69,23 +52,14 @@ export type OnSides<On extends Sides | undefined = Sides | undefined> = { sides?
 export type Known = { scrambles?: readonly Text[] | undefined };
 
 /** What is wanted of the best ways on: `soFar`, the moves that were made after the scramble, those in brackets on its
- * inverse, none if it isn't given; `slack`, how many turns longer the first step may be than the shortest on the
- * scramble alone, on its inverse alone, or over both, none if it isn't given; `most`, how many rows, 20 if it isn't
- * given; `nodes`, at how many positions it looks at most, at as many as there are if it isn't given. In a pool each
- * axis is searched up to this bound. If it would look at more, it is cut: `cut` says whether `SearchCut` is thrown, as
- * it is if it isn't given, or the best of what was tried until then returned. */
-export type BestWanted = {
-  soFar?: Text | undefined;
-  slack?: number | undefined;
-  most?: number | undefined;
-  nodes?: number | undefined;
-  cut?: Telling | undefined;
-};
+ * inverse, else none; `slack`, how many turns longer the first step may be than the shortest on the scramble alone, on
+ * its inverse alone, or over both, else none; `most`, how many rows, else 20; `nodes`, of each axis in a pool. */
+export type BestWanted = Omit<Wanted, "limit"> & { soFar?: Text | undefined };
 
 /** The most turns of a search. */
 export const MOST_TURNS = 20;
 
-/** How many of the best are told. */
+/** How many of the best are told if it isn't said. */
 const MOST_TOLD = 20;
 
 /** The most turns of a scramble, the most scrambles, and the most bytes of a turn with what stands behind it. */
@@ -93,7 +67,24 @@ const MOST_SCRAMBLED = 256;
 const MOST_SCRAMBLES = 10_000;
 const MOST_OF_TURN = 3;
 
-export function runRequest(words: unknown, input: unknown = "", room: unknown = undefined): RunRequest {
+/** An option, read once. It is one only if it is the object's own: what objects inherit may be what some script gave to
+ * all of them.
+ * @param otherwise what it is if it isn't given */
+export function optionOf(options: unknown, name: string, otherwise: unknown = undefined): unknown {
+  if (typeof options !== "object" || options === null) throw new TypeError("the options are no object");
+  const given = Object.hasOwn(options, name) ? (options as any)[name] : undefined;
+  return given === undefined ? otherwise : given;
+}
+
+/** Refuses an option that a call doesn't have, such as one that is misspelled. */
+export function refuseUnknown(options: unknown, known: readonly string[]) {
+  // what is no object is refused where an option is read
+  const given = typeof options === "object" && options !== null ? Object.keys(options) : [];
+  const unknown = given.find((name) => !known.includes(name));
+  if (unknown !== undefined) throw new TypeError(`there is no option ${unknown}`);
+}
+
+export function runRequest(words: unknown, input: unknown = "", room: unknown = undefined): RequestOf<"run"> {
   const listed = joinedWords(words);
   const given = bytesOf(input, "the input");
   // the module would take a negative one as 2^64 less so much, and write behind the memory
@@ -101,7 +92,7 @@ export function runRequest(words: unknown, input: unknown = "", room: unknown = 
   return { call: "run", words: listed, input: given, room: size };
 }
 
-export const lineRequest = (call: Rewriting, line: unknown): LineRequest =>
+export const lineRequest = <Call extends Rewriting | "facts">(call: Call, line: unknown) =>
   ({ call, line: takenLine(line, "the line") });
 
 /** An option that is a bound, which Infinity and nothing leave open.
@@ -109,7 +100,7 @@ export const lineRequest = (call: Rewriting, line: unknown): LineRequest =>
  * @param otherwise what it is if it isn't given */
 function boundOf(options: unknown, name: string, what: string, otherwise: number = Infinity) {
   const given = optionOf(options, name, otherwise);
-  return given === Infinity ? given : wholeNumber(given, what, Number.MAX_SAFE_INTEGER);
+  return given === Infinity ? given : wholeNumber(given, `the greatest number of ${what}`, Number.MAX_SAFE_INTEGER);
 }
 
 /** An option that says whether something is thrown.
@@ -121,17 +112,22 @@ export function toldBy(options: unknown, name: string, otherwise: Telling): Tell
   return given;
 }
 
+/** @param what is told, most of which `otherwise` if that isn't said */
+const boundsIn = (options: unknown, what: string, otherwise?: number): Bounds => ({
+  slack: wholeNumber(optionOf(options, "slack", 0), "the slack", MOST_TURNS),
+  most: boundOf(options, "most", what, otherwise),
+  nodes: boundOf(options, "nodes", "nodes"),
+  cut: toldBy(options, "cut", "throw"),
+});
+
 const searchOf = (step: unknown, line: unknown, options: unknown): Search => ({
   limit: wholeNumber(optionOf(options, "limit", MOST_TURNS), "the limit", MOST_TURNS),
-  slack: wholeNumber(optionOf(options, "slack", 0), "the slack", MOST_TURNS),
-  most: boundOf(options, "most", "the greatest number of solutions"),
-  nodes: boundOf(options, "nodes", "the greatest number of nodes"),
-  cut: toldBy(options, "cut", "throw"),
+  ...boundsIn(options, "solutions"),
   step: stringOf(step, "the step"),
   line: takenLine(line, "the line"),
 });
 
-export const countRequest = (step: unknown, line: unknown, options: unknown = {}): CountRequest =>
+export const countRequest = (step: unknown, line: unknown, options: unknown = {}): RequestOf<"count"> =>
   ({ call: "count", ...searchOf(step, line, options) });
 
 export const solveRequest = (step: unknown, line: unknown, options: unknown = {}): SolveRequest =>
@@ -140,7 +136,7 @@ export const solveRequest = (step: unknown, line: unknown, options: unknown = {}
 const SIDES_OF_LISTS: readonly unknown[] = ["normal", "inverse", "both"];
 
 /** The same, or on the sides that are asked for. */
-export function listRequest(step: unknown, line: unknown, options: unknown = {}): SolveRequest | SidesRequest {
+export function listRequest(step: unknown, line: unknown, options: unknown = {}): RequestOf<"solve" | "solveSides"> {
   const sides = optionOf(options, "sides");
   if (sides === undefined) return solveRequest(step, line, options);
   if (typeof sides !== "string") throw new TypeError("the option sides is no string");
@@ -155,9 +151,7 @@ export const OF_SOLUTIONS = ["limit", "slack"];
 export const solutionsRequest = (step: unknown, line: unknown, options: unknown = {}): SolveRequest =>
   solveRequest(step, line, { limit: optionOf(options, "limit"), slack: optionOf(options, "slack") });
 
-export const factsRequest = (line: unknown): FactsRequest => ({ call: "facts", line: takenLine(line, "the line") });
-
-export const checkRequest = (scramble: unknown, solution: unknown): CheckRequest => ({
+export const checkRequest = (scramble: unknown, solution: unknown): RequestOf<"check"> => ({
   call: "check",
   scramble: takenLine(scramble, "the scramble"),
   solution: takenLine(solution, "the solution"),
@@ -170,7 +164,7 @@ function writtenText(text: unknown) {
   return written;
 }
 
-export const textRequest = (call: ReadingRequest["call"], text: unknown): ReadingRequest =>
+export const textRequest = <Call extends "plainLine" | "readAttempts" | "checkAttempts">(call: Call, text: unknown) =>
   ({ call, text: writtenText(text) });
 
 /** A known scramble as the line of an attempt: a byte that is no text is at fault there as what stands for it. */
@@ -179,34 +173,29 @@ function knownScramble(scramble: unknown, index: number) {
   return typeof scramble === "string" ? scramble : asString(taken);
 }
 
-export function checksRequest(text: unknown, options: unknown = {}): TextRequest {
+export function checksRequest(text: unknown, options: unknown = {}): RequestOf<"checkAttempts" | "checkSolutions"> {
   const scrambles = optionOf(options, "scrambles");
   if (scrambles === undefined) return textRequest("checkAttempts", text);
   if (!Array.isArray(scrambles)) throw new TypeError("the scrambles are no array");
   return { call: "checkSolutions", text: writtenText(text), scrambles: eachOf(scrambles, knownScramble) };
 }
 
-/** A scramble and the moves so far. */
-const bothOf = (scramble: unknown, soFar: unknown) =>
-  ({ scramble: takenLine(scramble, "the scramble"), soFar: takenLine(soFar, "the moves so far") });
+export const lineAfterRequest = (scramble: unknown, soFar: unknown = ""): RequestOf<"lineAfter"> => ({
+  call: "lineAfter",
+  scramble: takenLine(scramble, "the scramble"),
+  soFar: takenLine(soFar, "the moves so far"),
+});
 
-export const lineAfterRequest = (scramble: unknown, soFar: unknown = ""): LineAfterRequest =>
-  ({ call: "lineAfter", ...bothOf(scramble, soFar) });
-
-/** The numbers of all axes. */
 const ALL_AXES = [0, 1, 2];
 
-export const bestRequest = (scramble: unknown, options: unknown = {}): BestRequest => ({
+export const bestRequest = (scramble: unknown, options: unknown = {}): RequestOf<"best"> => ({
+  ...lineAfterRequest(scramble, optionOf(options, "soFar")),
   call: "best",
-  ...bothOf(scramble, optionOf(options, "soFar", "")),
-  slack: wholeNumber(optionOf(options, "slack", 0), "the slack", MOST_TURNS),
-  most: boundOf(options, "most", "the greatest number of rows", MOST_TOLD),
-  nodes: boundOf(options, "nodes", "the greatest number of nodes"),
-  cut: toldBy(options, "cut", "throw"),
+  ...boundsIn(options, "rows", MOST_TOLD),
   axes: ALL_AXES,
 });
 
-export const scrambleRequest = (state: unknown, stream: unknown, length: unknown): ScrambleRequest => ({
+export const scrambleRequest = (state: unknown, stream: unknown, length: unknown): RequestOf<"scramble"> => ({
   call: "scramble",
   state: wideNumber(state, "the state"),
   stream: wideNumber(stream, "the stream"),
@@ -214,11 +203,9 @@ export const scrambleRequest = (state: unknown, stream: unknown, length: unknown
 });
 
 /** A run of the program's command, with room for its longest output. */
-export function scramblesRequest(state: unknown, stream: unknown, length: unknown, count: unknown): RunRequest {
+export function scramblesRequest(state: unknown, stream: unknown, length: unknown, count: unknown) {
   const one = scrambleRequest(state, stream, length);
   const many = wholeNumber(count, "the count", MOST_SCRAMBLES);
   const words = [one.call, one.state, one.stream, one.length, many].map(String);
   return runRequest(words, "", many * (one.length * MOST_OF_TURN + 1));
 }
-
-export const stepsRequest = (): StepsRequest => ({ call: "steps" });

@@ -9,8 +9,6 @@ const FIRST_OF_PIECES = 64;
 const MOST_OF_PIECE = 16_384;
 const GROWTH_OF_PIECES = 4;
 
-const firstPiece = (request: SolveRequest): SolveRequest => ({ ...request, most: FIRST_OF_PIECES });
-
 /** What is asked for the piece after this one, if there is one. */
 function nextPiece(request: SolveRequest, found: Solutions): SolveRequest | null {
   const last = found[found.length - 1];
@@ -21,7 +19,7 @@ function nextPiece(request: SolveRequest, found: Solutions): SolveRequest | null
 export function* solutionsBy(
   request: SolveRequest, ask: (request: SolveRequest) => SolveReply,
 ): Generator<Solution, void, undefined> {
-  for (let piece: SolveRequest | null = firstPiece(request); piece !== null; ) {
+  for (let piece: SolveRequest | null = { ...request, most: FIRST_OF_PIECES }; piece !== null;) {
     const found: Solutions = solutionsIn(ask(piece), piece);
     for (const solution of found) yield solution;
     piece = nextPiece(piece, found);
@@ -32,7 +30,7 @@ export function* solutionsBy(
 export async function* solutionsLaterBy(
   request: SolveRequest, ask: (request: SolveRequest) => Promise<SolveReply>,
 ): AsyncGenerator<Solution, void, undefined> {
-  for (let piece: SolveRequest | null = firstPiece(request); piece !== null; ) {
+  for (let piece: SolveRequest | null = { ...request, most: FIRST_OF_PIECES }; piece !== null;) {
     const found: Solutions = solutionsIn(await ask(piece), piece);
     for (const solution of found) yield solution;
     piece = nextPiece(piece, found);

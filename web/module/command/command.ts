@@ -1,31 +1,27 @@
 // The command `nissy` in node: what the program does with its words, its streams and its status, by the module.
-import { hasValue, STATUS } from "../engine/status.js";
-import { encoded, textIn } from "../shared/utf8.js";
 import { readFileSync } from "node:fs";
 import process from "node:process";
-import { LINE_FEED, MOST_INPUT } from "../shared/bytes.js";
-import { Engine } from "../engine/engine.js";
-import { NoWebAssembly } from "../shared/faults.js";
-import { InputLines, split } from "./input-lines.js";
-import { SEARCH_ANSWER, SOLUTION } from "../shared/layout.js";
+import { countIn, withValue, type Seen } from "../calls/replies.js";
 import { MOST_TURNS, countRequest, runRequest, solveRequest } from "../calls/requests.js";
+import { Instance } from "../engine/instance.js";
+import { counted, solvedBytes } from "../engine/line-calls.js";
+import { runIn } from "../engine/runs.js";
+import { STATUS } from "../engine/status.js";
+import { LINE_FEED, MOST_INPUT } from "../shared/bytes.js";
+import { NissyFault, inLine } from "../shared/faults.js";
+import { SEARCH_ANSWER, SOLUTION } from "../shared/layout.js";
 import { isStep } from "../shared/steps.js";
+import { encoded, textIn } from "../shared/utf8.js";
+import { answerInput, split } from "./input-lines.js";
 import { OUT_OF_MEMORY, Stop, TOO_LONG } from "./stop.js";
 import { readSome, writeAll } from "./streams.js";
-import type { Answer, LineFault, NoValue, Seen, StartFault } from "../calls/replies.js";
 
 /** Some solutions of a list. */
-export type Piece = Seen & { out: Uint8Array };
+type Piece = Seen & { out: Uint8Array };
 
 /** A search, and the words of the line that it is asked for: if there are none, it is asked for each line of the input.
  */
-export type Search = {
-  command: "solve" | "count" | "near";
-  step: string;
-  limit: number;
-  slack: number;
-  words: string[];
-};
+type Search = { command: string; step: string; limit: number; slack: number; words: string[] };
 
 const INPUT = 0;
 const OUTPUT = 1;
@@ -34,7 +30,7 @@ const ERRORS = 2;
 const NOTHING = new Uint8Array(0);
 
 /** How many numbers follow the step. */
-const SEARCHES = { solve: 1, count: 1, near: 2 };
+const SEARCHES = new Map([["solve", 1], ["count", 1], ["near", 2]]);
 
 /** The room for the output of a run: none without a search is longer than 10,000 scrambles of 256 turns. */
 const RUN_ROOM = 8 * 1_048_576;
@@ -63,27 +59,18 @@ const read = (buffer: Uint8Array) => byStream("cannot read", () => readSome(INPU
 /** Makes a run without a search, and writes its output.
  * @param first the number of the input's first line
  * @returns how many bytes it wrote */
-function run(engine: Engine, words: string[], input: Uint8Array, first = 1): number {
-  const { status, out, err } = engine.answer(runRequest(words, input, RUN_ROOM)) as Answer;
+function run(instance: Instance, words: string[], input: Uint8Array, first = 1): number {
+  const { status, out, err } = runIn(instance, runRequest(words, input, RUN_ROOM));
   write(out);
   if (status !== STATUS.done) throw new Stop(status, textIn(err)).after(first - 1);
   return out.length;
 }
 
-/** What was found of a line, unless it is at fault.
- * @param number the line's */
-function found<Found extends Seen>(reply: Found | NoValue, number: number): Found {
-  if (reply.status === STATUS.fault) throw Stop.ofLine(number, reply as LineFault | StartFault);
-  if (!hasValue(reply.status)) throw Stop.because(OUT_OF_MEMORY);
-  return reply as Found;
-}
-
 /** Writes how many solutions a line has. */
-function writeCount(engine: Engine, { step, limit }: Search, line: Uint8Array, number: number) {
-  const reply = engine.answer(countRequest(step, line, { limit })) as Seen | NoValue;
-  const seen = found(reply, number);
-  const [least, solutions, nodes] = [READ.least, READ.solutions, READ.nodes].map((read) => read(seen.answer, seen.at));
-  writeText(`length ${solutions === 0 ? "none" : least} solutions ${solutions} nodes ${nodes}\n`);
+function writeCount(instance: Instance, { step, limit }: Search, line: Uint8Array) {
+  const request = countRequest(step, line, { limit });
+  const { length, solutions, nodes } = countIn(counted(instance, request), request);
+  writeText(`length ${length ?? "none"} solutions ${solutions} nodes ${nodes}\n`);
 }
 
 const READ = SEARCH_ANSWER.read;
@@ -103,36 +90,40 @@ const lastMoves = (out: Uint8Array) =>
   textIn(out.subarray(out.lastIndexOf(LINE_FEED, out.length - 2) + 1, out.lastIndexOf(BRACKET))).trimEnd();
 
 /** Writes the solutions of a line in pieces, each of which goes on after the last solution of the one before. */
-function writeSolutions(engine: Engine, { step, limit, slack }: Search, line: Uint8Array, number: number) {
+function writeSolutions(instance: Instance, { step, limit, slack }: Search, line: Uint8Array) {
   const request = solveRequest(step, line, { limit, slack, most: MOST_OF_PIECE });
-  let piece = found(engine.solutionBytes(request), number);
+  let piece: Piece = withValue(solvedBytes(instance, request));
   if (READ.solutions(piece.answer, piece.at) === 0) {
     writeText(`no solution within ${limit} moves\n\n`);
     return;
   }
   writePiece(piece);
   while (hasMore(piece)) {
-    piece = found(engine.solutionBytes({ ...request, after: lastMoves(piece.out) }), number);
+    piece = withValue(solvedBytes(instance, { ...request, after: lastMoves(piece.out) }));
     writePiece(piece);
   }
 }
 
 /** The search that these words ask for, if they ask for one. */
 function searchOf([command, step, ...rest]: string[]): Search | undefined {
-  if (command !== "solve" && command !== "count" && command !== "near") return undefined;
-  const numbers = rest.slice(0, SEARCHES[command]);
+  const count = SEARCHES.get(command);
+  const numbers = rest.slice(0, count);
   const areNumbers = numbers.every((word) => /^[0-9]+$/.test(word) && Number(word) <= MOST_TURNS);
-  if (numbers.length !== SEARCHES[command] || !areNumbers || !isStep(step)) return undefined;
+  if (numbers.length !== count || !areNumbers || !isStep(step)) return undefined;
   const [limit, slack = 0] = numbers.map(Number);
-  return { command, step, limit, slack, words: rest.slice(numbers.length) };
+  return { command, step, limit, slack, words: rest.slice(count) };
 }
 
 /** Answers lines of a search by the tables that stay. */
-function searchLines(engine: Engine, search: Search, lines: Uint8Array, first: number) {
+function searchLines(instance: Instance, search: Search, lines: Uint8Array, first: number) {
   const writeFound = search.command === "count" ? writeCount : writeSolutions;
   let number = first;
   for (const line of split(lines)) {
-    writeFound(engine, search, line, number);
+    try {
+      writeFound(instance, search, line);
+    } catch (error) {
+      throw inLine(error, number);
+    }
     number += 1;
   }
 }
@@ -145,36 +136,36 @@ function inputOf(words: string[]) {
 }
 
 /** Makes a search. Its tables are built before anything is read. */
-function makeSearch(engine: Engine, search: Search) {
-  engine.answer(countRequest(search.step, "", { limit: 0 }));
-  if (search.words.length > 0) searchLines(engine, search, inputOf(search.words), 1);
-  else new InputLines(read).answer((lines, first) => searchLines(engine, search, lines, first));
+function makeSearch(instance: Instance, search: Search) {
+  instance.tablesOf(search.step);
+  if (search.words.length > 0) searchLines(instance, search, inputOf(search.words), 1);
+  else answerInput(read, (lines, first) => searchLines(instance, search, lines, first));
 }
 
 /** Does what the words say. If they read lines, they write nothing for an input without any; of the others only no
  * scrambles write nothing. */
-function obey(engine: Engine, words: string[]) {
+function obey(instance: Instance, words: string[]) {
   const search = searchOf(words);
-  if (search !== undefined) makeSearch(engine, search);
-  else if (run(engine, words, NOTHING) === 0 && words[0] !== "scramble") {
-    new InputLines(read).answer((lines, first) => run(engine, words, lines, first));
+  if (search !== undefined) makeSearch(instance, search);
+  else if (run(instance, words, NOTHING) === 0 && words[0] !== "scramble") {
+    answerInput(read, (lines, first) => run(instance, words, lines, first));
   }
 }
 
-async function started(): Promise<Engine> {
+async function started(): Promise<Instance> {
+  if (!globalThis.WebAssembly) throw Stop.because("this node runs no WebAssembly");
   try {
-    return await Engine.start(readFileSync(new URL("../nissy.wasm", import.meta.url)));
+    const module = readFileSync(new URL("../nissy.wasm", import.meta.url));
+    return new Instance((await WebAssembly.instantiate(module)).instance);
   } catch (error) {
-    const { message } = error as Error;
-    const isOfNode = error instanceof NoWebAssembly;
-    const why = isOfNode ? "this node runs no WebAssembly" : `nissy.wasm can't be loaded: ${message}`;
-    throw Stop.because(why);
+    throw Stop.because(`nissy.wasm can't be loaded: ${(error as Error).message}`);
   }
 }
 
 /** @returns what the command says of it */
 function stopOf(error: unknown): Stop {
   if (error instanceof Stop) return error;
+  if (error instanceof NissyFault) return new Stop(STATUS.fault, `nissy: ${error.message}\n`);
   // what the host has no memory for
   if (error instanceof RangeError) return Stop.because(OUT_OF_MEMORY);
   return Stop.because(`the engine broke off: ${(error as Error).message}`);

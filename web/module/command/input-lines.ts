@@ -25,37 +25,25 @@ export function* split(lines: Uint8Array): Iterable<Uint8Array> {
   }
 }
 
-/** The lines of an input that is read once. */
-export class InputLines {
-  /** What there is of the line that is open, and its number. */
-  #open: Uint8Array[] = [];
-  #number = 1;
-
-  /** @param read reads some bytes into a buffer, none at the end */
-  constructor(private read: (buffer: Uint8Array) => number) {}
-
-  /** Has all lines that have come answered before more is read, up to the end. */
-  answer(answer: Answering) {
-    const buffer = new Uint8Array(BLOCK);
-    let left = MOST_INPUT;
-    for (let count = this.read(buffer); count > 0; count = this.read(buffer)) {
-      const block = buffer.subarray(0, Math.min(count, left));
-      this.#take(block, answer);
-      if (count > left) throw Stop.because(TOO_LONG);
-      left -= count;
-    }
-    if (this.#open.length > 0) answer(joinedBytes(this.#open), this.#number);
-  }
-
-  #take(block: Uint8Array, answer: Answering) {
+/** Has all lines of the input that have come answered before more is read, up to the end.
+ * @param read reads some bytes into a buffer, none at the end */
+export function answerInput(read: (buffer: Uint8Array) => number, answer: Answering) {
+  const buffer = new Uint8Array(BLOCK);
+  let open: Uint8Array[] = [];
+  let [number, left] = [1, MOST_INPUT];
+  for (let count = read(buffer); count > 0; count = read(buffer)) {
+    const block = buffer.subarray(0, Math.min(count, left));
     const end = block.lastIndexOf(LINE_FEED) + 1;
     if (end > 0) {
-      const lines = joinedBytes([...this.#open, block.subarray(0, end)]);
-      this.#open = [];
-      answer(lines, this.#number);
-      this.#number += countOf(lines);
+      const lines = joinedBytes([...open, block.subarray(0, end)]);
+      open = [];
+      answer(lines, number);
+      number += countOf(lines);
     }
     // a copy, since the next block takes this one's place
-    if (end < block.length) this.#open.push(block.slice(end));
+    if (end < block.length) open.push(block.slice(end));
+    if (count > left) throw Stop.because(TOO_LONG);
+    left -= count;
   }
+  if (open.length > 0) answer(joinedBytes(open), number);
 }

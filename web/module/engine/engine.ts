@@ -6,29 +6,23 @@ import { WrittenText, type PlainLine } from "../text/written.js";
 import { EngineMissing } from "../shared/faults.js";
 import { bestOf } from "./best-search.js";
 import { Instance } from "./instance.js";
-import { checked, counted, factsOf, lineAfterOf, rewritten, solved, solvedBytes, written } from "./line-calls.js";
+import { checked, counted, factsOf, lineAfterOf, rewritten, solved, written } from "./line-calls.js";
 import { answerAll } from "./many-lines.js";
 import { countedOverSides, solvedOverSides } from "./over-sides.js";
 import { runIn } from "./runs.js";
 import { compiled, type ModuleSource } from "./source.js";
-import type { AllReply } from "../calls/many.js";
-import type { CountOfSides, OneReply, SolveBytesReply } from "../calls/replies.js";
-import type { Request, SolveRequest, TextRequest } from "../calls/requests.js";
+import type { CountOfSides, OneReply } from "../calls/replies.js";
+import type { Request, RequestOf } from "../calls/requests.js";
 import type { Follow } from "../calls/signals.js";
 
-export type Reply = OneReply | CountOfSides | AllReply | PlainLine | Attempt[] | SeenAttempt[];
-/** An engine, or what asks one. */
-export type Answering = { answer: (request: Request, tell?: Follow) => any };
+type Reply = OneReply | CountOfSides | PlainLine | Attempt[] | SeenAttempt[];
+type OneCall = Exclude<Request["call"], "all">;
+type Answer<Call extends OneCall> = (instance: Instance, request: RequestOf<Call>, tell: Follow) => Reply;
 
-type AnswersOf<Asked extends Request> = {
-  [Call in Asked["call"]]:
-    (instance: Instance, request: Extract<Asked, { call: Call }>, tell: Follow) => Reply;
-};
-
-const inMemory = (instance: Instance, { text }: TextRequest) => new TextInMemory(instance, new WrittenText(text));
+const inMemory = (instance: Instance, { text }: { text: string }) => new TextInMemory(instance, new WrittenText(text));
 
 /** How each request is answered. */
-const REPLIES: AnswersOf<Exclude<Request, { call: "all" }>> = {
+const REPLIES: { [Call in OneCall]: Answer<Call> } = {
   invert: (instance, { line }) => rewritten(instance, "nissy_invert", line),
   unniss: (instance, { line }) => rewritten(instance, "nissy_unniss", line),
   cleanup: (instance, { line }) => rewritten(instance, "nissy_cleanup", line),
@@ -50,8 +44,7 @@ const REPLIES: AnswersOf<Exclude<Request, { call: "all" }>> = {
   checkSolutions: (instance, request) => seenSolutions(instance, inMemory(instance, request), request.scrambles),
 };
 
-type Answer = (instance: Instance, request: Request, tell: Follow) => Reply;
-const answerOf = (call: Exclude<Request["call"], "all">) => REPLIES[call] as Answer;
+const answerOf = (call: OneCall) => REPLIES[call] as Answer<any>;
 
 export class Engine {
   #instance: Instance;
@@ -65,18 +58,12 @@ export class Engine {
     return new Engine(module, await WebAssembly.instantiate(module, {}));
   }
 
-  /** What the engine returns. */
-  answer(request: Request, tell: Follow = () => {}): Reply {
+  /** @returns a reply, of the type that the request has */
+  answer(request: Request, tell: Follow = () => {}): any {
     const instance = this.#ready();
     if (request.call !== "all") return answerOf(request.call)(instance, request, tell);
     const answer = answerOf(request.each.call);
     return answerAll(instance, request, (asked) => answer(instance, asked, () => {}) as OneReply);
-  }
-
-  /** A few solutions as bytes, which stand in the engine's memory until its next call: so a list that is gone
-   * through in pieces leaves nothing to be collected. */
-  solutionBytes(request: SolveRequest): SolveBytesReply {
-    return solvedBytes(this.#ready(), request);
   }
 
   /** The instance, or another one of the module in place of one that broke off. */

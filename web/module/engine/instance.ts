@@ -1,11 +1,11 @@
 // An instance of the module: how it is called, its memory, where the free part of that begins, and the tables that stay
 // there.
-import { bytesOf, type Text } from "../shared/bytes.js";
+import type { Text } from "../shared/bytes.js";
 import { HEAD, struct, structOf, type Reading } from "../shared/structs.js";
 import { InstanceMemory, aligned, roomFor } from "./memory.js";
 import { STATUS } from "./status.js";
 
-/** What the module exports: addresses, lengths and numbers of 64 bits are wide there. */
+/** What the module exports. */
 export type Exports = { [name: string]: any };
 
 /** What a call is given after the place of its answer, as the headers have it: a text, by its place and its length;
@@ -22,19 +22,16 @@ export const TABLES = 16;
 const SMALL_ROOM = 256;
 const LARGE_ROOM = 2_621_440;
 
-/** The room for the module's answer of a call. */
+/** The room for an answer. */
 const ANSWER = 48;
 
 const NEEDED = ["memory", "__heap_base", "nissy_run"];
 
 export class Instance {
   #exports: Exports;
-  /** Where the tables of each step are: no step has what some script gave to all objects. */
-  #tables: { [step: string]: number };
+  #tables = new Map<string, number>();
   /** Whether a call began that didn't return: what the module has in its memory is then in no order. */
   isBroken = false;
-  /** What the module calls faults, by their numbers. */
-  faultTexts = new Map<number, string>();
   memory: InstanceMemory;
   /** Where answers are written. */
   answer: number;
@@ -44,7 +41,6 @@ export class Instance {
   constructor({ exports }: WebAssembly.Instance) {
     if (!NEEDED.every((name) => name in exports)) throw new TypeError("this is another module than nissy.wasm");
     this.#exports = exports;
-    this.#tables = { __proto__: null } as any;
     this.memory = new InstanceMemory(this.#exports.memory);
     this.answer = aligned(Number(this.#exports.__heap_base.value));
     this.free = aligned(this.answer + ANSWER);
@@ -61,8 +57,12 @@ export class Instance {
   /** Calls the module by what it is given, which is written into its memory.
    * @returns where each of these stands */
   ask(name: string, given: readonly Given[]): number[] {
+    return this.#ask(name, [BigInt(this.answer)], given).places;
+  }
+
+  /** @param words what the call is handed over first */
+  #ask(name: string, words: (number | bigint)[], given: readonly Given[]) {
     const places: number[] = [];
-    const words: (number | bigint)[] = [BigInt(this.answer)];
     let end = this.free;
     for (let nth = 0; nth < given.length; nth += 1) {
       const each = given[nth];
@@ -70,8 +70,7 @@ export class Instance {
       if (typeof each === "object") end = aligned(end + this.#hand(words, each, end));
       else words.push(each);
     }
-    this.call((exports) => Reflect.apply(exports[name], undefined, words));
-    return places;
+    return { places, result: this.call((exports) => Reflect.apply(exports[name], undefined, words)) };
   }
 
   /** Writes what a call is given at a place, and hands over its words.
@@ -80,23 +79,18 @@ export class Instance {
     const { memory } = this;
     words.push(BigInt(place));
     if ("text" in given) {
-      const most = roomFor(given.text);
-      memory.reach(place + most);
       words.push(BigInt(memory.put(place, given.text)));
-      return most;
+      return roomFor(given.text);
     }
-    if ("struct" in given) {
-      memory.reach(place + given.struct.length);
-      return memory.put(place, given.struct);
-    }
+    if ("struct" in given) return memory.put(place, given.struct);
     if ("lent" in given) {
       memory.reach(place + ROOM.bytes + given.lent);
       return memory.put(place, structOf(ROOM, { block: place + ROOM.bytes, size: given.lent })) + given.lent;
     }
-    const bytes = "room" in given ? given.room : given.rows * given.of.bytes;
+    const [count, bytes] = "room" in given ? [given.room, given.room] : [given.rows, given.rows * given.of.bytes];
     memory.reach(place + bytes);
     if ("rows" in given && given.first) memory.put(place, given.first);
-    words.push(BigInt("room" in given ? given.room : given.rows));
+    words.push(BigInt(count));
     return bytes;
   }
 
@@ -111,26 +105,15 @@ export class Instance {
 
   /** Where the tables of a step are, which are built when they are asked for the first time, and stay. */
   tablesOf(step: string): number {
-    const built = this.#tables[step];
+    const built = this.#tables.get(step);
     if (built !== undefined) return built;
-    const name = bytesOf(step, "the step");
-    const { memory, free: tables } = this;
-    const small = aligned(tables + TABLES);
-    const large = aligned(small + SMALL_ROOM);
-    const rooms = aligned(large + LARGE_ROOM);
-    const nameAt = aligned(rooms + 2 * ROOM.bytes);
-    memory.reach(nameAt + name.length);
-    memory.all.fill(0, tables, tables + TABLES);
-    memory.put(rooms, structOf(ROOM, { block: small, size: SMALL_ROOM }));
-    memory.put(rooms + ROOM.bytes, structOf(ROOM, { block: large, size: LARGE_ROOM }));
-    const length = memory.put(nameAt, name);
-    const status = this.call(({ nissy_build: build }) =>
-      build(BigInt(rooms), BigInt(rooms + ROOM.bytes), BigInt(tables), BigInt(nameAt), BigInt(length)));
-    if (status === STATUS.usage) throw new RangeError(`there is no step of the name ${JSON.stringify(step)}`);
+    const given = [{ lent: SMALL_ROOM }, { lent: LARGE_ROOM }, { struct: new Uint8Array(TABLES) }, { text: step }];
+    const { places: [, , tables, name], result } = this.#ask("nissy_build", [], given);
+    if (result === STATUS.usage) throw new RangeError(`there is no step of the name ${JSON.stringify(step)}`);
     // the module keeps both rooms
-    this.free = aligned(large + LARGE_ROOM);
-    if (status !== STATUS.done) throw new Error("the tables of a step have no room");
-    this.#tables[step] = tables;
+    this.free = name;
+    if (result !== STATUS.done) throw new Error("the tables of a step have no room");
+    this.#tables.set(step, tables);
     return tables;
   }
 }

@@ -6,9 +6,7 @@ import {
 } from "../shared/layout.js";
 import { HEAD, type Struct } from "../shared/structs.js";
 import { START_FAULT, STATUS, hasValue } from "./status.js";
-import type {
-  CheckRequest, CountRequest, FactsRequest, LineAfterRequest, Search, SolveRequest,
-} from "../calls/requests.js";
+import type { RequestOf, Search, SolveRequest } from "../calls/requests.js";
 import type { LineReply, NoValue, OfTwo, Seen, SolveBytesReply, SolveReply } from "../calls/replies.js";
 import type { Given, Instance } from "./instance.js";
 
@@ -24,15 +22,6 @@ export const boundsOf = ({ limit, slack, most, nodes }: Search): Given[] => [lim
 /** @returns what was written, nothing if the call has no value */
 const outOf = (reply: LineReply): string => (reply.status === STATUS.done ? reply.out : "");
 
-/** What the module calls a fault, which it is asked for once. */
-function faultText(instance: Instance, fault: number) {
-  const known = instance.faultTexts.get(fault);
-  if (known !== undefined) return known;
-  const text = outOf(written(instance, "nissy_fault_text", [fault]));
-  instance.faultTexts.set(fault, text);
-  return text;
-}
-
 /** Why a call on a line has no value. The module is asked for the words, so its answer is read before.
  * @param line which was read
  * @param step which is searched
@@ -42,7 +31,7 @@ export function refusal(
 ): NoValue {
   const [status, fault, column] = [HEAD.read.status, HEAD.read.fault, HEAD.read.column].map((read) => read(bytes, at));
   if (status !== STATUS.fault) return { status } as NoValue;
-  const text = faultText(instance, fault);
+  const text = outOf(written(instance, "nissy_fault_text", [fault]));
   if (fault === START_FAULT) {
     return { status, fault, step, start: outOf(rewritten(instance, "nissy_start", step)), text };
   }
@@ -72,23 +61,14 @@ export function written<Refused extends NoValue>(
 export const rewritten = (instance: Instance, name: string, line: Text): LineReply =>
   written(instance, name, [{ text: line }], () => refusal(instance, line));
 
-/** The line of the cube after a scramble and the moves so far. */
-export const lineAfterOf = (instance: Instance, { scramble, soFar }: LineAfterRequest): LineReply | OfTwo =>
-  written(instance, "nissy_line_after", [{ text: scramble }, { text: soFar }],
-    () => refusalOfTwo(instance, scramble, soFar));
+export const lineAfterOf = (
+  instance: Instance, { scramble, soFar }: RequestOf<"lineAfter">,
+): LineReply | OfTwo => written(instance, "nissy_line_after", [{ text: scramble }, { text: soFar }],
+  () => refusalOfTwo(instance, scramble, soFar));
 
-/** The struct of an answer, copied. */
+/** The struct of an answer that has a value, copied. */
 const seen = (instance: Instance, { bytes }: Struct): Seen =>
   ({ status: instance.status as Seen["status"], answer: instance.memory.copy(instance.answer, bytes), at: 0 });
-
-/** A call whose answer has all that it tells.
- * @param refused why it has none */
-function answered<Refused>(
-  instance: Instance, name: string, given: Given[], of: Struct, refused: () => Refused,
-): Seen | Refused {
-  instance.ask(name, given);
-  return hasValue(instance.status) ? seen(instance, of) : refused();
-}
 
 /** @param read what was written */
 function solvedIn<Out>(
@@ -96,9 +76,8 @@ function solvedIn<Out>(
 ): Seen & { out: Out } | NoValue {
   const { step, line, after } = request;
   const tables = BigInt(instance.tablesOf(step));
-  const rest = [...boundsOf(request), { room }];
   const lines = after === undefined ? [{ text: line }] : [{ text: line }, { text: after }];
-  const given = [tables, ...lines, ...rest];
+  const given = [tables, ...lines, ...boundsOf(request), { room }];
   const places = instance.ask(after === undefined ? "nissy_solve" : "nissy_solve_after", given);
   if (!hasValue(instance.status)) return refusal(instance, line, step);
   const out = read(places[given.length - 1], instance.answered(SEARCH_ANSWER.read.length));
@@ -107,29 +86,30 @@ function solvedIn<Out>(
 
 export function solved(instance: Instance, request: SolveRequest): SolveReply {
   const wanted = request.most * SOLUTION;
-  const isLarger = (next: number) => next < SOLUTION_ROOMS.length && SOLUTION_ROOMS[next - 1] < wanted;
-  const inRoom = (room: number) =>
-    solvedIn(instance, request, room, (at, length) => instance.memory.text(at, length));
-  let reply = inRoom(SOLUTION_ROOMS[0]);
-  for (let next = 1; reply.status === STATUS.room && isLarger(next); next += 1) {
-    reply = inRoom(SOLUTION_ROOMS[next]);
+  for (const room of SOLUTION_ROOMS.filter((_, nth) => nth === 0 || SOLUTION_ROOMS[nth - 1] < wanted)) {
+    const reply = solvedIn(instance, request, room, (at, length) => instance.memory.text(at, length));
+    if (reply.status !== STATUS.room) return reply;
   }
-  return reply;
+  return { status: STATUS.room };
 }
 
-/** The same for a few solutions, as bytes that stand in the module's memory until its next call. */
+/** The same for a few solutions, as bytes that stand in the module's memory until its next call: so a list that is gone
+ * through in pieces leaves nothing to be collected. */
 export const solvedBytes = (instance: Instance, request: SolveRequest): SolveBytesReply =>
   solvedIn(instance, request, request.most * SOLUTION, (at, length) => instance.memory.bytes(at, length));
 
-export function counted(instance: Instance, request: CountRequest): Seen | NoValue {
+export function counted(instance: Instance, request: RequestOf<"count">): Seen | NoValue {
   const { step, line } = request;
-  const given = [BigInt(instance.tablesOf(step)), { text: line }, ...boundsOf(request)];
-  return answered(instance, "nissy_count", given, SEARCH_ANSWER, () => refusal(instance, line, step));
+  instance.ask("nissy_count", [BigInt(instance.tablesOf(step)), { text: line }, ...boundsOf(request)]);
+  return hasValue(instance.status) ? seen(instance, SEARCH_ANSWER) : refusal(instance, line, step);
 }
 
-export const factsOf = (instance: Instance, { line }: FactsRequest): Seen | NoValue =>
-  answered(instance, "nissy_facts", [{ text: line }], FACTS_ANSWER, () => refusal(instance, line));
+export function factsOf(instance: Instance, { line }: RequestOf<"facts">): Seen | NoValue {
+  instance.ask("nissy_facts", [{ text: line }]);
+  return hasValue(instance.status) ? seen(instance, FACTS_ANSWER) : refusal(instance, line);
+}
 
-export const checked = (instance: Instance, { scramble, solution }: CheckRequest): Seen | OfTwo =>
-  answered(instance, "nissy_check", [{ text: scramble }, { text: solution }], CHECK_ANSWER,
-    () => refusalOfTwo(instance, scramble, solution));
+export function checked(instance: Instance, { scramble, solution }: RequestOf<"check">): Seen | OfTwo {
+  instance.ask("nissy_check", [{ text: scramble }, { text: solution }]);
+  return hasValue(instance.status) ? seen(instance, CHECK_ANSWER) : refusalOfTwo(instance, scramble, solution);
+}

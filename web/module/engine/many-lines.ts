@@ -8,7 +8,7 @@ import { LINE_FEED, joinedBytes, type Text } from "../shared/bytes.js";
 import { encoded } from "../shared/utf8.js";
 import type { Given, Instance } from "./instance.js";
 import type { OfEach, Pair } from "../calls/requests.js";
-import type { OneReply, Seen } from "../calls/replies.js";
+import type { OneReply } from "../calls/replies.js";
 import type { Struct } from "../shared/structs.js";
 
 /** So many lines go to the module at once, of so many bytes unless the first one has more. */
@@ -16,9 +16,7 @@ const MOST_LINES = 256;
 const MOST_OF_TEXT = 262_144;
 
 /** The struct of an answer that has all that is told. */
-const STRUCTS: Partial<Record<OfEach["call"], Struct>> = {
-  facts: FACTS_ANSWER, count: SEARCH_ANSWER, check: CHECK_ANSWER,
-};
+const STRUCTS: { [call: string]: Struct } = { facts: FACTS_ANSWER, count: SEARCH_ANSWER, check: CHECK_ANSWER };
 
 const hasLineFeed = (line: Text) => (typeof line === "string" ? line.includes("\n") : line.includes(LINE_FEED));
 
@@ -46,86 +44,64 @@ function joinedLines(lines: Text[]): Text {
   return joinedBytes(lines.flatMap((line) => [typeof line === "string" ? encoded(line) : line, feed]));
 }
 
-/** What is asked of many lines by one call of the module: its name, and what it is given beside lines and answers. */
-type Question = { name: string; first: Given[]; then: Given[] };
-
-/** The replies to lines in turn, up to the first that ends the call. */
-class Replies implements AllReply {
-  count = 0;
-  size: number;
-  values: Uint8Array;
-  others: AllReply["others"] = [];
-  isOver = false;
-
-  constructor(private request: AllRequest) {
-    this.size = STRUCTS[request.each.call]?.bytes ?? 0;
-    this.values = new Uint8Array(this.size * request.lines.length);
-  }
-
-  /** Takes the reply to the next line. */
-  take(reply: OneReply) {
-    this.isOver = Boolean(endsAll(this.request, reply));
-    const isValue = this.size > 0 && "answer" in reply && !this.isOver;
-    if (isValue) this.values.set((reply as Seen).answer, this.count * this.size);
-    else this.others.push([this.count, reply]);
-    this.count += 1;
-  }
-
-  /** Takes answers that stand one after another, of which each without a value is replied to otherwise. */
-  takeAll(answers: Uint8Array, other: (nth: number) => OneReply) {
-    this.values.set(answers, this.count * this.size);
-    for (let nth = 0; nth * this.size < answers.length && !this.isOver; nth += 1) {
-      if (hasValue(answers[nth * this.size])) this.count += 1;
-      else this.take(other(nth));
-    }
-  }
-
-  /** What is sent and read. */
-  get told(): AllReply {
-    const { count, size, values, others } = this;
-    return { count, size, values: count * size < values.length ? values.slice(0, count * size) : values, others };
-  }
+/** Takes the reply to the next line.
+ * @returns whether it ends the call */
+function take(replies: AllReply, request: AllRequest, reply: OneReply): boolean {
+  const { count, size, values, others } = replies;
+  const isLast = endsAll(request, reply);
+  if (size > 0 && "answer" in reply && !isLast) values.set(reply.answer, count * size);
+  else others.push([count, reply]);
+  replies.count += 1;
+  return isLast;
 }
 
-/** Asks the module of a piece. */
-function answerPiece(
-  instance: Instance, { name, first, then }: Question, lines: Text[], step: string, replies: Replies,
-) {
+/** What is asked of many lines by one call of the module, of a step if it has one. */
+type Question = { name: string; step?: string; given: (lines: Given, answers: Given) => Given[] };
+
+/** Asks the module of a piece.
+ * @returns whether a reply of it ends the call */
+function takePiece(
+  replies: AllReply, instance: Instance, request: AllRequest, { name, step, given }: Question, lines: Text[],
+): boolean {
   const { size } = replies;
-  const given = [...first, { text: joinedLines(lines) }, ...then, { rows: lines.length, of: { bytes: size } }];
-  const places = instance.ask(name, given);
+  const all = given({ text: joinedLines(lines) }, { rows: lines.length, of: { bytes: size } });
+  const places = instance.ask(name, all);
   const isWhole = instance.answered(LINES_ANSWER.read.lines) === lines.length;
   if (!isWhole) throw new Error("the module took other lines than it was given");
   // a copy, since the module is asked for the words of a fault, which it may write over them
-  const answers = instance.memory.copy(places[given.length - 1], lines.length * size);
-  replies.takeAll(answers, (nth) => refusal(instance, lines[nth], step, answers, nth * size));
+  const answers = instance.memory.copy(places[all.length - 1], lines.length * size);
+  replies.values.set(answers, replies.count * size);
+  let isLast = false;
+  for (let nth = 0; nth < lines.length && !isLast; nth += 1) {
+    if (hasValue(answers[nth * size])) replies.count += 1;
+    else isLast = take(replies, request, refusal(instance, lines[nth], step, answers, nth * size));
+  }
+  return isLast;
 }
 
 /** What is asked of many lines at once, or null if each has to be asked by itself: the module has no such call, or the
  * first fault, or the first search that is cut, ends all, so that what is behind it isn't searched. */
 function questionOf(instance: Instance, { each, faults }: AllRequest): Question | null {
-  if (each.call === "facts") return { name: "nissy_facts_lines", first: [], then: [] };
+  if (each.call === "facts") return { name: "nissy_facts_lines", given: (lines, answers) => [lines, answers] };
   if (each.call === "best" || each.call === "check") return null;
   // a step that isn't there is told though there may be no line
-  const tables = instance.tablesOf(each.step);
+  const tables = BigInt(instance.tablesOf(each.step));
   const goesOn = faults === "value" && (each.nodes === Infinity || each.cut === "value");
   if (each.call !== "count" || !goesOn) return null;
-  return { name: "nissy_count_lines", first: [BigInt(tables)], then: boundsOf(each) };
+  const given = (lines: Given, answers: Given) => [tables, lines, ...boundsOf(each), answers];
+  return { name: "nissy_count_lines", step: each.step, given };
 }
 
-/** What is asked of one of many lines. */
-function askedOfLine(each: OfEach, line: Text | Pair): OfEach {
-  if (each.call === "check") return { ...each, ...line as Pair } as OfEach;
-  const own = line as Text;
-  return each.call === "best" ? { ...each, scramble: own } : { ...each, line: own };
-}
-
-/** The reply to a line of which too many bytes were given, or none if it has no more than are read. */
-function tooLong(line: Text | Pair | null): OneReply | null {
-  if (line === null) return TOO_LONG;
-  if (typeof line === "string" || !("scramble" in line)) return null;
-  if (line.scramble === null) return { ...TOO_LONG, line: 1 };
-  return line.solution === null ? { ...TOO_LONG, line: 2 } : null;
+/** The reply to a line by itself, of which too many bytes may have been given. */
+function replyTo(each: OfEach, line: Text | Pair | null, answer: (asked: OfEach) => OneReply): OneReply {
+  if (each.call === "check") {
+    const { scramble, solution } = line as Pair;
+    if (scramble !== null && solution !== null) return answer({ ...each, scramble, solution });
+    return { ...TOO_LONG, line: scramble === null ? 1 : 2 };
+  }
+  const own = line as Text | null;
+  if (own === null) return TOO_LONG;
+  return answer(each.call === "best" ? { ...each, scramble: own } : { ...each, line: own });
 }
 
 /** Answers lines in turn, up to the first whose answer ends the call.
@@ -135,14 +111,12 @@ export function answerAll(
 ): AllReply {
   const { each, lines } = request;
   const question = questionOf(instance, request);
-  const replies = new Replies(request);
-  while (replies.count < lines.length && !replies.isOver) {
-    const line = lines[replies.count];
+  const size = STRUCTS[each.call]?.bytes ?? 0;
+  const replies: AllReply = { count: 0, size, values: new Uint8Array(size * lines.length), others: [] };
+  for (let isLast = false; replies.count < lines.length && !isLast;) {
     const piece = question === null ? [] : pieceFrom(lines as (Text | null)[], replies.count);
-    const refused = tooLong(line);
-    if (question !== null && piece.length > 0) {
-      answerPiece(instance, question, piece, "step" in each ? each.step : "", replies);
-    } else replies.take(refused ?? answer(askedOfLine(each, line as Text | Pair)));
+    if (question !== null && piece.length > 0) isLast = takePiece(replies, instance, request, question, piece);
+    else isLast = take(replies, request, replyTo(each, lines[replies.count], answer));
   }
-  return replies.told;
+  return replies;
 }

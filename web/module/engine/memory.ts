@@ -11,10 +11,8 @@ const MOST_BYTES = 65_536 * PAGE;
 /** Structs, and the memory for tables, stand at multiples of it. */
 const ALIGNMENT = 16;
 
-/** How many bytes a unit of a string takes at most, and how many a number of the module's has. */
+/** How many bytes a unit of a string takes at most. */
 const UNIT = 3;
-const OF_LONG = 8;
-const OF_UPPER_HALF = 2 ** 32;
 
 /** @returns the first place from this one on at which a part may stand */
 export const aligned = (place: number): number => place + ((ALIGNMENT - (place % ALIGNMENT)) % ALIGNMENT);
@@ -40,23 +38,22 @@ export class InstanceMemory {
 
   /** @returns so many numbers of eight bytes, one after another */
   longs(at: number, count: number): number[] {
-    const view = new DataView(this.all.buffer, at, OF_LONG * count);
+    const view = new DataView(this.all.buffer, at, 8 * count);
     const numbers = new Array(count);
     for (let nth = 0; nth < count; nth += 1) {
-      numbers[nth] = view.getUint32(OF_LONG * nth, true) + OF_UPPER_HALF * view.getUint32(OF_LONG * nth + 4, true);
+      numbers[nth] = view.getUint32(8 * nth, true) + 2 ** 32 * view.getUint32(8 * nth + 4, true);
     }
     return numbers;
   }
 
-  /** Writes a line, for which there is room.
-   * @returns how many bytes it took */
+  /** @returns how many bytes the line took */
   put(at: number, line: Text): number {
+    this.reach(at + roomFor(line));
     if (typeof line === "string") return encodedInto(line, this.bytes(at, roomFor(line))).written ?? 0;
     this.all.set(line, at);
     return line.length;
   }
 
-  /** @returns the text that these bytes are in UTF-8 */
   text(at: number, length: number): string {
     return textIn(this.bytes(at, length));
   }

@@ -6,7 +6,9 @@ import { refusal } from "./line-calls.js";
 import { STATUS, hasValue } from "./status.js";
 import type { CountOfSides, FoundParts, NoValue } from "../calls/replies.js";
 import type { Instance } from "./instance.js";
-import type { CountSidesRequest, SidesRequest } from "../calls/requests.js";
+import type { RequestOf } from "../calls/requests.js";
+
+type OverSides = RequestOf<"solveSides" | "countSides">;
 
 /** The numbers of the sides that moves may be on. */
 const NUMBERS = { normal: 1, inverse: 2, both: 3 };
@@ -15,81 +17,54 @@ const NUMBERS = { normal: 1, inverse: 2, both: 3 };
 const FIRST_PARTS = 4_096;
 const MORE_PARTS = 4;
 
-/** What was found of a list. */
-type Found = { pieces: Uint8Array[]; count: number; nodes: number };
-
 /** What is asked of one length. `passed`: how many solutions are passed over; `rows`: how many have place; `nodes`: at
  * how many positions it may look; `counts`: whether those without a place are counted, as 1 or 0. */
 type Piece = { length: number; passed: number; rows: number; nodes: number; counts: number };
+type FoundOfLength = FoundParts & { more: boolean; solutions: number };
 
-/** Asks the module for solutions of one length.
- * @returns where they stand, or why they aren't looked for */
-function asked(
-  instance: Instance, { step, line, sides }: SidesRequest | CountSidesRequest,
-  { length, passed, rows, nodes, counts }: Piece,
-): number | NoValue {
+const SIDES_READ = SIDES_ANSWER.read;
+
+/** Asks the module for solutions of one length. */
+function foundOfLength(
+  instance: Instance, { step, line, sides }: OverSides, { length, passed, rows, nodes, counts }: Piece,
+): FoundOfLength | NoValue {
   const mostNodes = Math.min(nodes, Number.MAX_SAFE_INTEGER);
   const wanted = structOf(SIDES_WANTED, { sides: NUMBERS[sides], length, counts, passed, mostNodes });
   const places = instance.ask("nissy_solve_sides", [
     BigInt(instance.tablesOf(step)), { text: line }, { text: "" }, { struct: wanted }, { rows, of: WAY_PART },
   ]);
-  return hasValue(instance.status) ? places[4] : refusal(instance, line, step);
-}
-
-/** Takes the solutions of one length that the module finds. */
-function partsIn(
-  instance: Instance, request: SidesRequest, piece: Omit<Piece, "counts">,
-): FoundParts & { more: boolean } | NoValue {
-  const place = asked(instance, request, { ...piece, counts: 0 });
-  if (typeof place !== "number") return place;
+  if (!hasValue(instance.status)) return refusal(instance, line, step);
   return {
     status: instance.status as 0 | 5,
-    more: instance.answered(SIDES_ANSWER.read.more) === 1,
-    parts: instance.memory.copy(place, instance.answered(SIDES_ANSWER.read.rows) * WAY_PART.bytes),
-    nodes: instance.answered(SIDES_ANSWER.read.nodes),
+    more: instance.answered(SIDES_READ.more) === 1,
+    parts: instance.memory.copy(places[4], instance.answered(SIDES_READ.rows) * WAY_PART.bytes),
+    solutions: instance.answered(SIDES_READ.solutions),
+    nodes: instance.answered(SIDES_READ.nodes),
   };
 }
 
 /** How many solutions of a step have exactly so many turns over the sides that are asked for, as far as it may look. */
-export function countedOverSides(instance: Instance, request: CountSidesRequest): CountOfSides | NoValue {
-  const { limit: length, nodes: most } = request;
-  const place = asked(instance, request, { length, passed: 0, rows: 0, nodes: most, counts: 1 });
-  if (typeof place !== "number") return place;
-  const { solutions, nodes } = SIDES_ANSWER.read;
-  const isCut = instance.status === STATUS.cut;
-  return { solutions: instance.answered(solutions), nodes: instance.answered(nodes), isCut };
-}
-
-/** Adds the solutions of a length to those of shorter ones.
- * @returns how the search for them ended */
-function takeLength(
-  instance: Instance, request: SidesRequest, length: number, found: Found,
-): { status: 0 | 5 } | NoValue {
-  const before = found.count;
-  for (let rows = FIRST_PARTS; found.count < request.most; rows *= MORE_PARTS) {
-    const [passed, nodes] = [found.count - before, request.nodes - found.nodes];
-    const place = Math.min(rows, request.most - found.count);
-    const reply = partsIn(instance, request, { length, passed, rows: place, nodes });
-    if (!("parts" in reply)) return reply;
-    found.pieces.push(reply.parts);
-    found.count += reply.parts.length / WAY_PART.bytes;
-    found.nodes += reply.nodes;
-    if (reply.status === STATUS.cut || !reply.more) return reply;
-  }
-  return { status: STATUS.done };
+export function countedOverSides(instance: Instance, request: RequestOf<"countSides">): CountOfSides | NoValue {
+  const piece = { length: request.limit, passed: 0, rows: 0, nodes: request.nodes, counts: 1 };
+  const found = foundOfLength(instance, request, piece);
+  if (!("parts" in found)) return found;
+  return { solutions: found.solutions, nodes: found.nodes, isCut: found.status === STATUS.cut };
 }
 
 /** The solutions of a step over the sides that are asked for, from the shortest on. */
-export function solvedOverSides(instance: Instance, request: SidesRequest): FoundParts | NoValue {
-  const found: Found = { pieces: [], count: 0, nodes: 0 };
-  let longest = request.limit;
-  let isCut = false;
-  for (let length = 0; length <= longest && found.count < request.most && !isCut; length += 1) {
-    const isFirst = found.count === 0;
-    const reply = takeLength(instance, request, length, found);
-    if (!hasValue(reply.status)) return reply as NoValue;
-    isCut = reply.status === STATUS.cut;
-    if (isFirst && found.count > 0) longest = Math.min(longest, length + request.slack);
+export function solvedOverSides(instance: Instance, request: RequestOf<"solveSides">): FoundParts | NoValue {
+  const all: Uint8Array[] = [];
+  let [count, nodes, longest, isCut] = [0, 0, request.limit, false];
+  let [length, passed, rows] = [0, 0, FIRST_PARTS];
+  while (length <= longest && count < request.most && !isCut) {
+    const bounds = { rows: Math.min(rows, request.most - count), nodes: request.nodes - nodes };
+    const found = foundOfLength(instance, request, { length, passed, ...bounds, counts: 0 });
+    if (!("parts" in found)) return found;
+    const taken = found.parts.length / WAY_PART.bytes;
+    if (count === 0 && taken > 0) longest = Math.min(longest, length + request.slack);
+    all.push(found.parts);
+    [count, nodes, isCut] = [count + taken, nodes + found.nodes, found.status === STATUS.cut];
+    [length, passed, rows] = found.more ? [length, passed + taken, rows * MORE_PARTS] : [length + 1, 0, FIRST_PARTS];
   }
-  return { status: isCut ? STATUS.cut : STATUS.done, parts: joinedBytes(found.pieces), nodes: found.nodes };
+  return { status: isCut ? STATUS.cut : STATUS.done, parts: joinedBytes(all), nodes };
 }

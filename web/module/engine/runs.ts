@@ -4,7 +4,7 @@ import { ROOM, type Instance } from "./instance.js";
 import { STATUS } from "./status.js";
 import { textIn } from "../shared/utf8.js";
 import type { Answer } from "../calls/replies.js";
-import type { RunRequest } from "../calls/requests.js";
+import type { RequestOf } from "../calls/requests.js";
 
 /** How many bytes are lent for the tables of a run at first: those of any step fit, so that a page takes the same
  * memory from call to call. Longer words take more. */
@@ -24,20 +24,17 @@ const OUT_OF_MEMORY = "nissy: out of memory\n";
 function withEnough(
   first: number, most: number, run: (amount: number) => Answer, hadTooLittle: (answer: Answer) => boolean,
 ): Answer {
-  let amount = first;
-  let answer = run(amount);
-  while (hadTooLittle(answer) && amount < most) {
-    amount = Math.min(amount * GROWTH, most);
-    answer = run(amount);
+  for (let amount = first; ; amount = Math.min(amount * GROWTH, most)) {
+    const answer = run(amount);
+    if (amount >= most || !hadTooLittle(answer)) return answer;
   }
-  return answer;
 }
 
 const isRefusedMemory = (answer: Answer) => answer.status === STATUS.stopped && textIn(answer.err) === OUT_OF_MEMORY;
 
 /** @param room how many bytes the output may take
  * @param lent how many the tables may take */
-function runOnce(instance: Instance, { words, input }: RunRequest, room: number, lent: number): Answer {
+function runOnce(instance: Instance, { words, input }: RequestOf<"run">, room: number, lent: number): Answer {
   const { memory } = instance;
   const given = [{ lent }, { text: words }, { text: input }, { room }, { room: ERROR_ROOM }];
   const [lending, , , out, err] = instance.ask("nissy_run", given);
@@ -53,7 +50,7 @@ function runOnce(instance: Instance, { words, input }: RunRequest, room: number,
   };
 }
 
-export function runIn(instance: Instance, request: RunRequest): Answer {
+export function runIn(instance: Instance, request: RequestOf<"run">): Answer {
   const withRoom = (size: number) =>
     withEnough(FIRST_LENT, MOST_LENT, (lent) => runOnce(instance, request, size, lent), isRefusedMemory);
   if (request.room !== undefined) return withRoom(request.room);

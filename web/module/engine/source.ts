@@ -5,29 +5,12 @@ import { NoWebAssembly } from "../shared/faults.js";
 /** What the module can be had from: its bytes, what they are compiled to, or an answer to a request for them. */
 export type ModuleSource = ArrayBuffer | Uint8Array | WebAssembly.Module | Response;
 
-/** The kind of an object by its own name for it, which is the same in each realm: there are as many classes of a
- * name as realms. */
+/** The kind of an object by its own name for it, since each realm has a class of its own. */
 const tagOf = (value: unknown) => Object.prototype.toString.call(value).slice("[object ".length, -1);
 
 async function bodyOf(response: Response): Promise<ArrayBuffer> {
   if (!response.ok) throw new Error(`the module can't be had: the request was answered by status ${response.status}`);
   return response.arrayBuffer();
-}
-
-/** What there is of the module already, compiled: its bytes are taken before this returns.
- * @returns none if this is no module */
-function compiledFrom(given: unknown): Promise<WebAssembly.Module> | undefined {
-  if (isBytes(given)) return WebAssembly.compile(new Uint8Array(given));
-  switch (tagOf(given)) {
-    case "WebAssembly.Module":
-      return Promise.resolve(given as WebAssembly.Module);
-    case "ArrayBuffer":
-      return WebAssembly.compile(given as ArrayBuffer);
-    case "Response":
-      return bodyOf(given as Response).then((body) => WebAssembly.compile(body));
-    default:
-      return undefined;
-  }
 }
 
 /** The module, compiled. Rejects with `NoWebAssembly` if the host runs none. */
@@ -38,7 +21,16 @@ export async function compiled(source: ModuleSource | Promise<ModuleSource>): Pr
     throw new NoWebAssembly();
   }
   // bytes that the caller has may be others a moment later
-  const module = compiledFrom(source) ?? compiledFrom(await source);
-  if (module === undefined) throw new TypeError("the module is neither bytes nor a WebAssembly.Module nor a Response");
-  return module;
+  const given: any = typeof (source as any)?.then === "function" ? await source : source;
+  if (isBytes(given)) return WebAssembly.compile(new Uint8Array(given));
+  switch (tagOf(given)) {
+    case "WebAssembly.Module":
+      return given;
+    case "ArrayBuffer":
+      return WebAssembly.compile(given);
+    case "Response":
+      return WebAssembly.compile(await bodyOf(given));
+    default:
+      throw new TypeError("the module is neither bytes nor a WebAssembly.Module nor a Response");
+  }
 }

@@ -14,9 +14,6 @@ export const MOST_WIDE = 0xffff_ffff_ffff_ffffn;
 
 export const LINE_FEED = 10;
 
-/** What ends each word. */
-const END = Uint8Array.of(0);
-
 /** A string of so many units isn't worth an array of its own. */
 const SHORT = 4_096;
 
@@ -36,8 +33,7 @@ export function bytesOf(text: unknown, what: string): Uint8Array {
 }
 
 /** A line as it is handed on: a short string, or bytes of which nobody else has any. One of too many bytes is null: the
- * module isn't given it, since its memory keeps the size that it once had.
- * @param what it is, for the error */
+ * module isn't given it, since its memory keeps the size that it once had. */
 export function readableLine(line: unknown, what: string): Text | null {
   const isString = typeof line === "string";
   if (isString && line.length <= SHORT) return line;
@@ -46,34 +42,25 @@ export function readableLine(line: unknown, what: string): Text | null {
   return bytes === null || bytes.length > MOST_INPUT ? null : bytes;
 }
 
-/** The same, but one of too many bytes is refused.
- * @param what it is, for the error */
+/** The same, but one of too many bytes is refused. */
 export function takenLine(line: unknown, what: string): Text {
   const taken = readableLine(line, what);
   if (taken === null) throw new RangeError(`${what} has more bytes than the engine reads`);
   return taken;
 }
 
-/** How many bytes the typographic apostrophe has, the one sign of moves that has several. */
-const OF_APOSTROPHE = 3;
-const LAST_OF_ASCII = 0x7f;
-
 /** Which character of a line stands at a column, from 1: what stands before a fault spells moves, so it can be read.
  * @param column in bytes from 1 */
 export function characterAt(line: Text, column: number) {
-  if (typeof line !== "string") return textIn(line.subarray(0, column - 1)).length + 1;
-  let at = 0;
-  for (let byte = 1; byte < column; at += 1) byte += line.charCodeAt(at) > LAST_OF_ASCII ? OF_APOSTROPHE : 1;
-  return at + 1;
+  const bytes = typeof line === "string" ? encoded(line) : line;
+  return textIn(bytes.subarray(0, column - 1)).length + 1;
 }
 
-/** What is made of each value of an array, by their places. */
 export function eachOf<Value, Made>(values: readonly Value[], make: (value: Value, index: number) => Made): Made[] {
   const length = wholeNumber(values.length, "the length of the array", MOST_VALUES);
   return Array.from({ length }, (_, index) => make(values[index], index));
 }
 
-/** Some bytes after each other. */
 export function joinedBytes(pieces: readonly Uint8Array[]): Uint8Array {
   const bytes = new Uint8Array(pieces.reduce((sum, { length }) => sum + length, 0));
   let at = 0;
@@ -89,26 +76,22 @@ export function joinedWords(words: unknown): Uint8Array {
   if (!Array.isArray(words)) throw new TypeError("the words are no array");
   const listed = eachOf(words, (word, index) => bytesOf(word, `word ${index + 1}`));
   if (listed.some((word) => word.includes(0))) throw new RangeError("a word holds a zero byte");
-  return joinedBytes(listed.flatMap((word) => [word, END]));
+  return joinedBytes(listed.flatMap((word) => [word, Uint8Array.of(0)]));
 }
 
-/** @param what it is, for the error */
 export function stringOf(value: unknown, what: string): string {
   if (typeof value !== "string") throw new TypeError(`${what} is no string`);
   return value;
 }
 
-/** @param what it is, for the error
- * @returns a whole number from 0 to the most */
+/** @returns a whole number from 0 to the most */
 export function wholeNumber(value: unknown, what: string, most: number): number {
   if (typeof value !== "number") throw new TypeError(`${what} is no number`);
-  const isWithin = Number.isSafeInteger(value) && value >= 0 && value <= most;
-  if (!isWithin) throw new RangeError(`${what} is no whole number from 0 to ${most}`);
-  return value;
+  if (Number.isSafeInteger(value) && value >= 0 && value <= most) return value;
+  throw new RangeError(`${what} is no whole number from 0 to ${most}`);
 }
 
-/** @param what it is, for the error
- * @returns a whole number of 64 bits */
+/** @returns a whole number of 64 bits */
 export function wideNumber(value: unknown, what: string): bigint {
   if (typeof value === "number") return BigInt(wholeNumber(value, what, Number.MAX_SAFE_INTEGER));
   if (typeof value !== "bigint") throw new TypeError(`${what} is neither a number nor a bigint`);

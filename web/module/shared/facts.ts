@@ -13,7 +13,7 @@ export const CORNER_PLACES = Object.freeze([
   "URF", "UFL", "ULB", "UBR", "DFR", "DLF", "DBL", "DRB",
 ] as const);
 
-/** What forms of moves there are that the WCA's notation hasn't: form i is bit i of the module's mask. */
+/** The forms of moves that the WCA's notation hasn't: form i is bit i of the module's mask. */
 export const FORMS = ["slices", "lower_case", "brackets", "apostrophe", "half_prime"] as const;
 
 export type Axis = typeof AXES[number];
@@ -53,8 +53,6 @@ export type Check = {
   solved: boolean;
   /** As those of `Facts`. */
   moves: number;
-  /** As those of `Facts`. */
   cleanMoves: number;
-  /** The forms that it has and that the WCA's notation hasn't. */
   forms: readonly Form[];
 };

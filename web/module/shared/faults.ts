@@ -1,20 +1,19 @@
 // What calls throw beside a `TypeError` for a value of another type and a `RangeError` for one out of its range.
 import type { Count, Solution } from "../calls/replies.js";
 
-/** Where a fault is: `column`, in bytes of UTF-8 from 1, and `character`, the same in characters as JavaScript counts
- * them, both null if it isn't at one place; `step`, which can't begin at the line's cube, null if the line can't be
- * read, and `start`, the step that would have to hold before that one; `line`, of many, from 1, null if there was one.
- */
-export type FaultPlace = {
+/** A fault as a plain value: `text`, what is wrong; `part`, what the line is called, such as `scramble`, else nothing;
+ * `column`, in bytes of UTF-8 from 1, and `character`, the same in characters as JavaScript counts them, both null if
+ * it isn't at one place; `step`, which can't begin at the line's cube, null if the line can't be read, and `start`, the
+ * step that would have to hold before that one; `line`, of many, from 1, null if there was one. */
+export type FaultParts = {
+  text: string;
+  part: string;
   column: number | null;
   character: number | null;
   step: string | null;
   start: string | null;
   line: number | null;
 };
-
-/** A fault as a plain value. */
-export type FaultParts = FaultPlace & { text: string; part: string };
 
 /** What is said before a fault: of which line it is, by its number unless the line has a name, and at which column. */
 function placeInWords(line: number | null, column: number | null, name: string) {
@@ -27,8 +26,8 @@ function placeInWords(line: number | null, column: number | null, name: string) 
 export class NissyFault extends Error {
   /** @param text what is wrong
    * @param place null is what isn't given
-   * @param part what the line is called, such as `scramble`: the message says that in place of its number */
-  constructor(text: string, place: Partial<FaultPlace>, part = "") {
+   * @param part what the line is called: the message says that in place of its number */
+  constructor(text: string, place: Partial<FaultParts>, part = "") {
     const { column = null, character = null, step = null, start = null, line = null } = place;
     super(placeInWords(line, column, part) + text);
     Object.assign(this, { name: "NissyFault", text, column, character, step, start, line, part });
@@ -42,20 +41,6 @@ export class NissyFault extends Error {
 }
 
 export interface NissyFault extends FaultParts {}
-
-/** The same fault in a line of many.
- * @param line from 1
- * @param part what the line is called, if not by its number */
-export const faultInLine = (fault: NissyFault, line: number, part?: string) =>
-  new NissyFault(fault.text, { ...fault.parts(), line }, part);
-
-/** The same of one of many pairs of lines, which have names: the message says the number too.
- * @param line from 1 */
-export function faultInPair(fault: NissyFault, line: number) {
-  const inPair = faultInLine(fault, line, fault.part);
-  inPair.message = `line ${line}, ${fault.message}`;
-  return inPair;
-}
 
 /** What is made with errors that are told in it, and not thrown: without their traces, which take ten times as long. */
 export function withoutTraces<Made>(make: () => Made): Made {
@@ -81,33 +66,43 @@ export class SearchCut extends Error {
   }
 }
 
-/** The cut of several searches together, which tells of none of them.
- * @param nodes at how many positions they looked */
-export const cutOfAll = (nodes: number) => new SearchCut({ length: null, solutions: 0, nodes }, null);
+/** What is wrong in a line of many, with its number; one of a pair keeps its name. @param line from 1 */
+export function inLine(error: unknown, line: number, isOfPair = false): unknown {
+  if (error instanceof NissyFault) {
+    const fault = new NissyFault(error.text, { ...error.parts(), line }, isOfPair ? error.part : "");
+    if (isOfPair) fault.message = `line ${line}, ${error.message}`;
+    return fault;
+  }
+  if (error instanceof SearchCut) return new SearchCut(error.count, error.found, line);
+  return error instanceof RangeError ? new RangeError(`line ${line}: ${error.message}`) : error;
+}
+
+const NO_WEB_ASSEMBLY = "This browser runs no WebAssembly. Each one of the last years does, but not where it was "
+  + "switched off, as in Safari's Lockdown Mode.";
 
 /** This host runs no module at all. */
 export class NoWebAssembly extends Error {
+  override name = "NoWebAssembly";
+
   constructor() {
-    super(
-      "This browser runs no WebAssembly. Each one of the last years does, but not where it was switched off, as in "
-        + "Safari's Lockdown Mode.",
-    );
-    this.name = "NoWebAssembly";
+    super(NO_WEB_ASSEMBLY);
   }
 }
 
 /** The engine broke off or couldn't be started, and can't be started again. */
 export class EngineMissing extends Error {
+  override name = "EngineMissing";
+
   constructor(message: string, public override cause?: unknown) {
     super(message);
-    this.name = "EngineMissing";
   }
 }
 
 /** A call that was given up. */
 export class Stopped extends Error {
+  override name = "AbortError";
+
   constructor() {
     super("stopped");
-    this.name = "AbortError";
   }
 }

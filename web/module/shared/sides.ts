@@ -3,7 +3,6 @@
 
 export type Side = "normal" | "inverse";
 
-/** What there is of each side. */
 export type OnSides<Kept> = Record<Side, Kept>;
 
 /** Of a step on each side, of which one or both may have none. */
@@ -13,7 +12,6 @@ export const SIDES: readonly Side[] = ["normal", "inverse"];
 
 export const otherSide = (side: Side): Side => (side === "normal" ? "inverse" : "normal");
 
-/** Some moves after each other. */
 export const joined = (...lines: string[]) => lines.filter((line) => line !== "").join(" ");
 
 /** Steps as one line, with what is on the inverse side in brackets. */

@@ -1,20 +1,18 @@
 // The steps by their names.
 
-/** All of them, in the module's order. */
+/** In the module's order. */
 export const STEPS = Object.freeze([
   "eofb", "eorl", "eoud",
   "drud-eofb", "drrl-eofb", "drud-eorl", "drfb-eorl", "drrl-eoud", "drfb-eoud",
   "eo", "dr-eofb", "dr-eorl", "dr-eoud",
 ] as const);
 
-/** The name of a step. */
 export type Step = typeof STEPS[number];
 
 /** What calls take as a step: tsc refuses a literal that names none, and a string that it doesn't know is judged by the
  * call. */
 export type StepName<Name extends string> = Name & (string extends Name ? string : Name extends Step ? string : never);
 
-/** Whether a value is the name of a step. */
 export const isStep = (name: unknown): name is Step => STEPS.some((step) => step === name);
 
 /** The step that has to hold before another one: the orientation that a reduction keeps, null before an orientation. */

@@ -42,8 +42,7 @@ export function struct<Name extends string>(fields: Record<Name, Size>): Struct<
   return made;
 }
 
-/** Writes a number in so many bytes. */
-export function putNumber(bytes: Uint8Array, at: number, width: number, number: number) {
+function putNumber(bytes: Uint8Array, at: number, width: number, number: number) {
   let rest = number;
   for (let place = at; place < at + width; place += 1) {
     bytes[place] = rest % 256;

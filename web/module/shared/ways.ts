@@ -30,25 +30,23 @@ const NO_LENGTH = 21;
 const POWERS = ["", "2", "'"];
 const TURNS = [..."UDRLFB"].flatMap((face) => POWERS.map((power) => face + power));
 
-/** Turns on a side, of which the last ones that are `free` are quarter turns of either direction, or half turns. */
-export type SideTurns = { turns: string[]; free: number };
-
-function sideAt(bytes: Uint8Array, at: number): SideTurns {
-  const begin = at + SIDE_TURNS.at.turns;
-  const numbers = bytes.subarray(begin, begin + SIDE_TURNS.read.count(bytes, at));
-  return { turns: Array.from(numbers, (number) => TURNS[number]), free: SIDE_TURNS.read.free(bytes, at) };
-}
-
 /** @returns a turn, and a quarter turn the other way round too */
 function eitherWay(turn: string): string[] {
   if (turn.endsWith("2")) return [turn];
   return [turn, turn.endsWith("'") ? turn[0] : `${turn}'`];
 }
 
-/** The free turns with each direction that they may have, their own first. */
-const endsOf = ({ turns, free }: SideTurns) => turns.slice(turns.length - free).reduce(
-  (begun, turn) => begun.flatMap((each) => eitherWay(turn).map((last) => joined(each, last))), [""],
-);
+/** The turns on a side, and how they may end: the last ones that are free are quarter turns of either direction, or
+ * half turns. */
+function sideAt(bytes: Uint8Array, at: number) {
+  const { count, free } = SIDE_TURNS.read;
+  const begin = at + SIDE_TURNS.at.turns;
+  const turns = Array.from(bytes.subarray(begin, begin + count(bytes, at)), (number) => TURNS[number]);
+  const ends = turns.slice(turns.length - free(bytes, at)).reduce(
+    (begun, turn) => begun.flatMap((each) => eitherWay(turn).map((last) => joined(each, last))), [""],
+  );
+  return { turns, ends };
+}
 
 /** The step whose moves stand at a place, or null if there is none. */
 function stepAt(bytes: Uint8Array, at: number): BestStep | null {
@@ -56,14 +54,15 @@ function stepAt(bytes: Uint8Array, at: number): BestStep | null {
   if (number === NO_STEP) return null;
   const sides = SIDES.map((side) => sideAt(bytes, at + WAY_PART.at[side]));
   const [normal, inverse] = sides.map(({ turns }) => turns.join(" "));
-  const [ends, others] = sides.map(endsOf);
+  const [ends, others] = sides.map((side) => side.ends);
+  // their own come first
   const twins = ends.flatMap((end) => others.map((other) => bracketed([{ normal: end, inverse: other }]))).slice(1);
   const length = sides[0].turns.length + sides[1].turns.length;
   return { step: STEPS[number], moves: bracketed([{ normal, inverse }]), normal, inverse, length, twins };
 }
 
 /** The way on whose row begins at a place. */
-export function wayAt(bytes: Uint8Array, at: number): BestRow {
+function wayAt(bytes: Uint8Array, at: number): BestRow {
   const eo = stepAt(bytes, at + WAY.at.eo);
   const dr = stepAt(bytes, at + WAY.at.dr) as BestStep;
   const [normal, inverse] = [WAY.read.onNormal, WAY.read.onInverse].map((read) => read(bytes, at))
@@ -77,7 +76,6 @@ export function wayAt(bytes: Uint8Array, at: number): BestRow {
   };
 }
 
-/** All ways on whose rows stand one behind the other. */
 export const waysIn = (bytes: Uint8Array) =>
   Array.from({ length: bytes.length / WAY.bytes }, (_, row) => wayAt(bytes, row * WAY.bytes));
 

@@ -1,13 +1,13 @@
 // The calls as promises, by workers: what one of them throws, its promise is rejected with.
 import { takeCalls, type Row } from "../calls/call-table.js";
-import { refuseUnknown } from "../calls/options.js";
-import { OF_SOLUTIONS, solutionsRequest, stepsRequest, type Request } from "../calls/requests.js";
-import { Telling, onAbort, reasonOf, signalOf, type Follow, type Stoppable } from "../calls/signals.js";
+import { OF_SOLUTIONS, refuseUnknown, solutionsRequest, type Request } from "../calls/requests.js";
+import { onAbort, progressOf, reasonOf, signalOf, type Follow, type Stoppable } from "../calls/signals.js";
 import { solutionsLaterBy } from "../calls/solutions-in-turn.js";
+import { compiled, type ModuleSource } from "../engine/source.js";
 import { Stopped } from "../shared/faults.js";
+import { WorkerQueue, type Call, type NewWorker, type SentModule } from "./worker-queue.js";
 import type { Calls, When } from "../calls/calls.js";
 import type { SolveReply } from "../calls/replies.js";
-import type { Call, WorkerQueue } from "./worker-queue.js";
 
 /** Has a worker reply to a request, which is given up together with the others of its call. */
 export type Ask = (request: Request, follow?: Follow) => Promise<any>;
@@ -22,11 +22,10 @@ export const unshared: Share = async ({ read }, request, ask, tell) => {
 
 export class LaterCalls<Time extends When> {
   #queue: WorkerQueue;
-  #share: Share;
 
   static #calls = takeCalls<LaterCalls<"worker">>(this.prototype, async (caller, row, given) => {
     const { takes, options = [], one, isFollowed } = row;
-    const isTold = isFollowed || (one && caller.#share !== unshared);
+    const isTold = isFollowed || (one && caller.share !== unshared);
     refuseUnknown(given[takes], [...options, "signal", ...(isTold ? ["onProgress"] : [])]);
     return caller.#tell(row, row.request(...given), given[takes]);
   }, {
@@ -38,14 +37,14 @@ export class LaterCalls<Time extends When> {
     },
   });
 
-  constructor(queue: WorkerQueue, share = unshared) {
-    this.#queue = queue;
-    this.#share = share;
+  /** An engine whose workers are started by the first calls. */
+  constructor(module: SentModule, newWorker: NewWorker, workers = 1, private share = unshared) {
+    this.#queue = new WorkerQueue(module, newWorker, workers);
   }
 
   /** @returns these calls once a first one is answered: without an answer no worker can be started */
   static async begun<Caller extends LaterCalls<any>>(calls: Caller): Promise<Caller> {
-    await calls.#queue.answer(stepsRequest());
+    await calls.#queue.answer({ call: "steps" });
     return calls;
   }
 
@@ -65,10 +64,15 @@ export class LaterCalls<Time extends When> {
   }
 
   async #tell(row: Row, request: Request, options: unknown): Promise<unknown> {
-    const telling = new Telling(options);
-    const read = await this.#together(options, (ask, call) =>
-      this.#share(row, request, ask, (progress) => (call.isOver ? undefined : telling.tell(progress))));
-    await telling.heard();
+    const follow = progressOf(options);
+    const heard: Promise<unknown>[] = [];
+    const read = await this.#together(options, (ask, call) => this.share(row, request, ask, (progress) => {
+      if (call.isOver) return undefined;
+      const told = Promise.resolve(follow(progress));
+      heard.push(told);
+      return told;
+    }));
+    await Promise.all(heard);
     return read();
   }
 
@@ -88,3 +92,13 @@ export class LaterCalls<Time extends When> {
 }
 
 export interface LaterCalls<Time extends When> extends Calls<Time> {}
+
+/** The engine in a worker. Its calls are those of `Nissy`, and what these throw, the promises are rejected with. Each
+ * may be given up by an `AbortSignal`: the tables of the steps are built anew after a call that ran. */
+export class WorkerCalls extends LaterCalls<"worker"> {
+  /** Starts an engine. Rejects with `NoWebAssembly` if the host runs none, and with `EngineMissing` if the worker can't
+   * be started. */
+  static async startBy(source: ModuleSource | Promise<ModuleSource>, newWorker: NewWorker): Promise<WorkerCalls> {
+    return this.begun(new this(await compiled(source), newWorker));
+  }
+}

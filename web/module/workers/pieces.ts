@@ -1,6 +1,5 @@
 // Many lines in pieces: which of them are asked for next, and what is told of them in the order of the lines.
-import { endsAll, putTold, toldOf, type AllRequest, type ReadOne } from "../calls/many.js";
-import type { OneReply } from "../calls/replies.js";
+import { ToldLines, endsAll, type AllRequest, type ReadOne } from "../calls/many.js";
 import type { Progress } from "../calls/signals.js";
 import type { PieceReply } from "./serve.js";
 
@@ -12,23 +11,22 @@ const MOST_LINES = 4_096;
  * waits for the next one, and none long for the last one of another. */
 const SHORT = 10;
 const LONG = 40;
-
-/** So many times as many lines follow at most. */
+/** So many times as many follow at most. */
 const GROWTH = 4;
 
 /** So many quick lines are worth a piece; of those that are left each worker gets so many pieces or more. */
 const QUICK_LINES = 64;
 const PIECES = 2;
 
-/** The pieces of a request. */
+/** From a line up to another one. */
+export type Piece = { begin: number; end: number };
+
 export class Pieces {
-  /** Where each piece begins. */ #begins: number[] = [];
-  /** What is told of each line. */ #told: unknown[];
-  /** Whether each piece is told. */ #isTold: boolean[] = [];
-  /** The first line of which an error is thrown. */ #failed: { index: number; error: unknown } | null = null;
+  #told: ToldLines;
+  /** What was begun and isn't told. */ #open = new Set<Piece>();
   /** how many lines are in a piece */ #begun = 0;
-  /** how many pieces are told, and so has been each before them */ #known = 0;
-  /** how many are wanted: none behind a reply that ends the call */ #wanted = Infinity;
+  /** how many lines are wanted: none behind a piece with a reply that ends the call */ #wanted = Infinity;
+  #hasFirst = false;
   #size = FIRST_LINES;
   #least = 1;
   #done = 0;
@@ -36,8 +34,8 @@ export class Pieces {
 
   /** @param workers how many share the pieces
    * @param one reads a reply */
-  constructor(private request: AllRequest, private workers: number, private one: ReadOne) {
-    this.#told = new Array(request.lines.length);
+  constructor(private request: AllRequest, private workers: number, one: ReadOne) {
+    this.#told = new ToldLines(request, one);
   }
 
   /** How many pieces the workers have: each a second one, if they are quick, to go on with while this thread reads the
@@ -46,32 +44,29 @@ export class Pieces {
     return (this.#isQuick ? 2 : 1) * this.workers;
   }
 
-  /** @returns the place of a piece that nobody has, or null if there is none */
-  next(): number | null {
-    const left = this.request.lines.length - this.#begun;
-    const at = this.#begins.length;
+  /** @returns a piece that nobody has, or null if there is none */
+  next(): Piece | null {
+    const begin = this.#begun;
+    const left = this.request.lines.length - begin;
     // a step that isn't there is told though there may be no line
-    if (at >= this.#wanted || (left === 0 && at > 0)) return null;
-    this.#begins.push(this.#begun);
+    if (begin >= this.#wanted || (left === 0 && this.#hasFirst)) return null;
+    this.#hasFirst = true;
     const shared = Math.max(this.#least, Math.ceil(left / (PIECES * this.workers)));
     this.#begun += Math.min(left, shared, this.#size);
-    return at;
+    const piece = { begin, end: this.#begun };
+    this.#open.add(piece);
+    return piece;
   }
 
-  requestOf(at: number): AllRequest {
-    const lines = this.request.lines.slice(this.#begins[at], this.#endOf(at));
-    return { ...this.request, lines, isPiece: true };
-  }
-
-  #endOf(at: number) {
-    return this.#begins[at + 1] ?? this.#begun;
+  requestOf({ begin, end }: Piece): AllRequest {
+    return { ...this.request, lines: this.request.lines.slice(begin, end), isPiece: true };
   }
 
   /** Learns from a worker's reply to a piece how many lines the next ones have, and whether any are wanted. Several
    * that were as long make the next ones shorter once. */
-  hear(at: number, { others, milliseconds }: PieceReply) {
-    if (others.some(([, reply]) => endsAll(this.request, reply))) this.#wanted = Math.min(this.#wanted, at + 1);
-    const lines = this.#endOf(at) - this.#begins[at];
+  hear({ begin, end }: Piece, { others, milliseconds }: PieceReply) {
+    if (others.some(([, reply]) => endsAll(this.request, reply))) this.#wanted = Math.min(this.#wanted, end);
+    const lines = end - begin;
     this.#isQuick = milliseconds <= LONG;
     if (milliseconds > LONG) this.#size = Math.min(this.#size, Math.max(1, Math.floor(lines / 2)));
     if (milliseconds >= SHORT) return;
@@ -80,43 +75,23 @@ export class Pieces {
     this.#least = QUICK_LINES;
   }
 
-  /** Takes what a worker's reply to a piece tells. */
-  take(at: number, reply: PieceReply) {
-    const begin = this.#begins[at];
-    const { each } = this.request;
-    putTold(this.#told, begin, reply, (seen) => this.one(seen, each), (other, index) => this.#read(other, index));
-    this.#done += this.#endOf(at) - begin;
-    this.#isTold[at] = true;
-    while (this.#isTold[this.#known]) this.#known += 1;
-  }
-
-  /** @param index of its line */
-  #read(reply: OneReply, index: number) {
-    try {
-      return toldOf(reply, index, this.request, this.one);
-    } catch (error) {
-      if (this.#failed === null || index < this.#failed.index) this.#failed = { index, error };
-      return undefined;
-    }
+  take(piece: Piece, reply: PieceReply) {
+    this.#told.take(piece.begin, reply);
+    this.#done += piece.end - piece.begin;
+    this.#open.delete(piece);
   }
 
   /** Whether all is told that is wanted. */
   areWhole() {
-    return this.#known >= Math.min(this.#wanted, this.#isBegun() ? this.#begins.length : Infinity);
-  }
-
-  /** Whether each line is in a piece. */
-  #isBegun() {
-    return this.#begun === this.request.lines.length && this.#begins.length > 0;
+    const areBegun = this.#begun >= Math.min(this.#wanted, this.request.lines.length);
+    return areBegun && [...this.#open].every(({ begin }) => begin >= this.#wanted);
   }
 
   /** @returns what is told of each line, unless that is thrown */
   told(): unknown[] {
-    if (this.#failed !== null) throw this.#failed.error;
-    return this.#told;
+    return this.#told.all();
   }
 
-  /** @returns how many lines have their reply */
   progress(): Progress {
     return { done: this.#done, all: this.request.lines.length };
   }

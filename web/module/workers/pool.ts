@@ -6,13 +6,12 @@ import { STATUS } from "../engine/status.js";
 import { wholeNumber } from "../shared/bytes.js";
 import { byRank } from "../shared/ways.js";
 import { LaterCalls, unshared, type Ask } from "./later-calls.js";
-import { Pieces } from "./pieces.js";
-import { WorkerQueue, type NewWorker, type SentModule } from "./worker-queue.js";
-import type { BestRequest } from "../calls/requests.js";
+import { Pieces, type Piece } from "./pieces.js";
+import type { NewWorker, SentModule } from "./worker-queue.js";
+import type { RequestOf } from "../calls/requests.js";
 import type { Follow, Progress } from "../calls/signals.js";
 import type { PieceReply } from "./serve.js";
 
-/** The most workers of a pool. */
 const MOST_WORKERS = 1_024;
 
 /** How far all of some requests are. */
@@ -21,15 +20,8 @@ const sumOf = (each: Progress[]): Progress => ({
   all: each.reduce((sum: number | null, { all }) => (sum === null || all === null ? null : sum + all), 0),
 });
 
-/** The axes that each request is for: as many as there are workers, so that each soon knows how many orientations it
- * has. A bound is for each axis by itself. */
-function sharesOf(workers: number, { axes, nodes }: BestRequest) {
-  const shares = nodes === Infinity ? Math.min(workers, axes.length) : axes.length;
-  return Array.from({ length: shares }, (_, at) => axes.filter((_, place) => place % shares === at));
-}
-
 /** What is told of all axes together. */
-function joinedBest(replies: BestReply[], request: BestRequest): Best {
+function joinedBest(replies: BestReply[], request: RequestOf<"best">): Best {
   const nodes = replies.reduce((sum, reply) => sum + ("nodes" in reply ? reply.nodes : 0), 0);
   // of all together, which may be cut though no axis is
   const last = nodes > request.nodes ? [{ status: STATUS.cut, ways: new Uint8Array(0), tried: 0, nodes }] : [];
@@ -39,10 +31,14 @@ function joinedBest(replies: BestReply[], request: BestRequest): Best {
   return best;
 }
 
-async function repliesOfAxes(workers: number, whole: BestRequest, ask: Ask, tell: Follow): Promise<BestReply[]> {
-  const requests = sharesOf(workers, whole).map((axes) => ({ ...whole, axes }));
-  const progress: Progress[] = requests.map(() => ({ done: 0, all: null }));
-  return Promise.all(requests.map((request, at) => ask(request, (told) => {
+/** Asks for the best of some axes each: in as many requests as there are workers, so that each soon knows how many
+ * orientations it has. A bound is for each axis by itself. */
+function repliesOfAxes(workers: number, whole: RequestOf<"best">, ask: Ask, tell: Follow): Promise<BestReply[]> {
+  const { axes, nodes } = whole;
+  const shares = nodes === Infinity ? Math.min(workers, axes.length) : axes.length;
+  const progress = new Array<Progress>(shares).fill({ done: 0, all: null });
+  const shared = progress.map((_, at) => axes.filter((__, place) => place % shares === at));
+  return Promise.all(shared.map((own, at) => ask({ ...whole, axes: own }, (told) => {
     progress[at] = told;
     return tell(sumOf(progress));
   })));
@@ -53,18 +49,18 @@ const askAll = (pieces: Pieces, ask: Ask, tell: Follow) => new Promise<void>((wh
   let asked = 0;
   const next = () => (asked < pieces.atOnce ? pieces.next() : null);
   const askMore = () => {
-    for (let at = next(); at !== null; at = next()) {
+    for (let piece = next(); piece !== null; piece = next()) {
       asked += 1;
-      ask(pieces.requestOf(at)).then(took(at)).catch(failed);
+      ask(pieces.requestOf(piece)).then(took(piece)).catch(failed);
     }
   };
   const follow = async () => tell(pieces.progress());
-  const took = (at: number) => (reply: PieceReply) => {
+  const took = (piece: Piece) => (reply: PieceReply) => {
     asked -= 1;
-    pieces.hear(at, reply);
+    pieces.hear(piece, reply);
     // the worker goes on while the reply is read
     askMore();
-    pieces.take(at, reply);
+    pieces.take(piece, reply);
     follow().catch(failed);
     if (pieces.areWhole()) whole();
   };
@@ -79,9 +75,8 @@ export class WorkerPool extends LaterCalls<"pool"> {
   /** How many workers there are. */
   readonly size: number;
 
-  /** Engines whose workers are started by the first calls. */
   constructor(workers: number, module: SentModule, newWorker: NewWorker) {
-    super(new WorkerQueue(module, newWorker, workers), async (row, request, ask, tell) => {
+    super(module, newWorker, workers, async (row, request, ask, tell) => {
       if (request.call === "all" && row.one) {
         const pieces = new Pieces(request, workers, row.one);
         await askAll(pieces, ask, tell);
@@ -94,8 +89,7 @@ export class WorkerPool extends LaterCalls<"pool"> {
     this.size = workers;
   }
 
-  /** Starts engines. Rejects with `NoWebAssembly` if the host runs none, and with `EngineMissing` if the workers can't
-   * be started. */
+  /** Starts engines. Rejects as `startBy` of one does. */
   static async startBy(
     workers: number, source: ModuleSource | Promise<ModuleSource>, newWorker: NewWorker,
   ): Promise<WorkerPool> {

@@ -1,19 +1,13 @@
 // The engine's side of a worker: the first message brings the module, and each later one is answered.
-import { Engine, type Reply } from "../engine/engine.js";
+import { Engine } from "../engine/engine.js";
 import type { AllReply } from "../calls/many.js";
 import type { Progress } from "../calls/signals.js";
 import type { Request } from "../calls/requests.js";
 
-/** The first message. */
-export type Beginning = { module: WebAssembly.Module | ArrayBuffer | Uint8Array };
-/** Each later one. */
-export type Question = { id: number; request: Request };
 /** And how long the worker took for it. */
 export type PieceReply = AllReply & { milliseconds: number };
-/** What comes before some answers. */
-export type Progressed = { id: number; progress: Progress };
-export type Answered = { id: number; reply: Reply | PieceReply };
-export type Unanswered = { id: number; error: { name: string; message: string } };
+/** What is told of a message, one of these: its reply, what was thrown, or, before some replies, how far it is. */
+export type Told = { id: number; reply: unknown; error: { name: string; message: string }; progress: Progress };
 
 /** What messages come from and go to: a worker itself, or its port in node. */
 export type Port = {
@@ -21,9 +15,10 @@ export type Port = {
   postMessage: (message: any, handedOver?: any[]) => void;
 };
 
+const WITH_BUFFERS = ["out", "err", "ways", "parts", "values"];
+
 /** The buffers of a reply, which needs them no longer here. */
-const buffersOf = (reply: Reply) => ["out", "err", "ways", "parts", "values"]
-  .flatMap((name) => (reply as any)[name]?.buffer ?? []);
+const buffersOf = (reply: any) => WITH_BUFFERS.flatMap((name) => reply[name]?.buffer ?? []);
 
 /** Answers what comes through a port, once the first message has brought the module.
  * @param answer posts the answers to a later message; what it throws is posted as an error */
@@ -49,7 +44,7 @@ export function serveBy<Started>(
 
 /** Has an engine answer what comes through a port; of some of a call's lines it says how long they took. */
 export function serve(port: Port) {
-  serveBy(port, (module) => Engine.start(module), (engine, { id, request }: Question) => {
+  serveBy(port, (module) => Engine.start(module), (engine, { id, request }: { id: number; request: Request }) => {
     const begun = performance.now();
     const reply = engine.answer(request, (progress) => port.postMessage({ id, progress }));
     const isPiece = request.call === "all" && request.isPiece;

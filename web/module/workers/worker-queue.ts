@@ -1,21 +1,17 @@
 // What is asked of one worker or several: it waits in one queue, from which each worker that is idle has the next
-// request. What runs is stopped by ending its worker, and the next request starts another. Pieces of one call are sent
-// two at a time.
+// request. What runs is stopped by ending its worker, and the next request starts another.
 import { EngineMissing, Stopped } from "../shared/faults.js";
 import type { Follow, Progress } from "../calls/signals.js";
-import type { Answered, Progressed, Unanswered } from "./serve.js";
+import type { Told } from "./serve.js";
 import type { Request } from "../calls/requests.js";
 
 /** What a worker can be sent: the module compiled, or its bytes, which it compiles then. */
 export type SentModule = WebAssembly.Module | ArrayBuffer | Uint8Array;
 
-/** A worker: what it is sent, and its end. */
-export type Sent = { postMessage: (message: object) => void; terminate: () => void };
+type Started = { postMessage: (message: object) => void; terminate: () => void };
 
 /** Starts a worker whose messages are taken, and of which it is told that it failed. */
-export type NewWorker = (
-  took: (data: Answered | Unanswered | Progressed) => void, failed: (message: string) => void,
-) => Sent;
+export type NewWorker = (took: (data: Told) => void, failed: (message: string) => void) => Started;
 
 /** A call, whose requests are given up together; none is sent once it is over. */
 export type Call = { isOver?: boolean };
@@ -30,7 +26,7 @@ type Asked = {
 };
 
 /** A worker, if it is started, and what it has, the one that runs first. */
-type Seat = { worker: Sent | null; sent: Asked[] };
+type Seat = { worker: Started | null; sent: Asked[] };
 
 /** How many pieces of a call a worker has: it needs not wait for the second one when it ends the first. */
 const MOST_SENT = 2;
@@ -40,7 +36,7 @@ const followsAtOnce = ({ call }: Asked, next: Asked) =>
   next.request.call === "all" && next.request.isPiece === true && next.call === call;
 
 /** @param error of the worker */
-const errorOf = ({ name, message }: { name: string; message: string }): Error =>
+const errorOf = ({ name, message }: Told["error"]): Error =>
   (name === "RangeError" ? new RangeError(message) : new EngineMissing(message));
 
 /** What starts a worker of a browser.
@@ -69,7 +65,6 @@ export class WorkerQueue {
     this.#seats = Array.from({ length: workers }, () => ({ worker: null, sent: [] }));
   }
 
-  /** What the engine returns. */
   async answer(request: Request, call: Call = {}, follow: Follow = () => {}): Promise<any> {
     if (call.isOver) throw new Stopped();
     return new Promise((answered, refused) => {
@@ -78,33 +73,29 @@ export class WorkerQueue {
     });
   }
 
-  /** Gives up the requests of a call. */
   giveUp(call: Call, reason: unknown) {
     call.isOver = true;
     this.#giveUp((asked) => asked.call === call, reason);
   }
 
-  /** Gives up the requests that wait for their turn; what runs goes on. */
   drop() {
     for (const { refused } of this.#waiting.splice(0)) refused(new Stopped());
   }
 
-  /** Gives up all requests. */
   stop() {
     this.#giveUp(() => true, new Stopped());
   }
 
-  /** Gives up all requests, and ends the workers. A later request starts others. */
   end() {
     for (const seat of this.#seats) this.#waiting.push(...this.#ended(seat));
     this.drop();
   }
 
   #giveUp(isGivenUp: (asked: Asked) => boolean, reason: unknown) {
-    const all = this.#seats.map((seat) => (seat.sent.some(isGivenUp) ? this.#ended(seat) : [])).flat();
-    const given = [...all, ...this.#waiting].filter(isGivenUp);
-    this.#waiting = [...all, ...this.#waiting].filter((asked) => !isGivenUp(asked));
-    for (const { refused } of given) refused(reason);
+    const ended = this.#seats.flatMap((seat) => (seat.sent.some(isGivenUp) ? this.#ended(seat) : []));
+    const all = [...ended, ...this.#waiting];
+    this.#waiting = all.filter((asked) => !isGivenUp(asked));
+    for (const { refused } of all.filter(isGivenUp)) refused(reason);
     // in a moment: what gives this up may give up others too
     queueMicrotask(() => this.#sendNext());
   }
@@ -118,15 +109,15 @@ export class WorkerQueue {
   }
 
   #sendNext() {
-    for (let seat = this.#ready(); seat !== undefined; seat = this.#ready()) {
+    while (this.#waiting.length > 0) {
+      const seat = this.#ready(this.#waiting[0]);
+      if (seat === undefined) return;
       this.#send(seat, this.#waiting.shift() as Asked);
     }
   }
 
-  /** @returns the first worker that may have the next request */
-  #ready(): Seat | undefined {
-    const [next] = this.#waiting;
-    if (next === undefined) return undefined;
+  /** @returns the first worker that may have this request */
+  #ready(next: Asked): Seat | undefined {
     return this.#seats.find(({ sent }) => sent.length === 0)
       ?? this.#seats.find(({ sent }) => sent.length < MOST_SENT && followsAtOnce(sent[0], next));
   }
@@ -142,9 +133,9 @@ export class WorkerQueue {
   }
 
   /** @returns a worker that has the module */
-  #started(seat: Seat): Sent {
-    const isThisOne = () => worker === seat.worker;
+  #started(seat: Seat): Started {
     // one that was ended while it loaded says nothing of the next one
+    const isThisOne = () => worker === seat.worker;
     const worker = this.newWorker(
       (data) => isThisOne() && this.#hear(seat, data),
       (message) => isThisOne() && this.#fail(seat, new EngineMissing(message)),
@@ -160,26 +151,25 @@ export class WorkerQueue {
     for (const { refused } of failed) refused(reason);
   }
 
-  #hear(seat: Seat, data: Answered | Unanswered | Progressed) {
+  #hear(seat: Seat, data: Told) {
     const [asked] = seat.sent;
     if (asked?.id !== data.id) return;
     if (Object.hasOwn(data, "progress")) {
-      this.#follow(asked, (data as Progressed).progress);
+      this.#follow(asked, data.progress);
       return;
     }
     seat.sent.shift();
-    if (Object.hasOwn(data, "error")) asked.refused(errorOf((data as Unanswered).error));
-    else asked.answered((data as Answered).reply);
+    if (Object.hasOwn(data, "error")) asked.refused(errorOf(data.error));
+    else asked.answered(data.reply);
     this.#sendNext();
   }
 
-  #follow(asked: Asked, progress: Progress) {
-    const failed = (reason: unknown) => this.#giveUp((other) => other === asked, reason);
+  /** Tells how far a request is, which what it throws, or rejects, gives up. */
+  async #follow(asked: Asked, progress: Progress) {
     try {
-      const told = asked.follow(progress);
-      if (told instanceof Promise) told.catch(failed);
-    } catch (error) {
-      failed(error);
+      await asked.follow(progress);
+    } catch (reason) {
+      this.#giveUp((other) => other === asked, reason);
     }
   }
 }
