@@ -14,7 +14,6 @@ export class ShownCounts {
   #question: Question | null = null;
   /** By the keys of rows; null while it is asked for. */
   #known = new Map<string, After | null>();
-  /** The rows that may come into view, by their elements. */
   #unseen = new Map<Element, Row>();
   /** the elements of which was told, or is to be */
   #told = new WeakSet();
@@ -22,14 +21,12 @@ export class ShownCounts {
   #isAsking = false;
   #observer: IntersectionObserver;
 
-  /** @param body of the table */
   constructor(calls: Calls, body: HTMLElement) {
     this.#calls = calls;
     this.#body = body;
     this.#observer = new IntersectionObserver((entries) => this.#look(entries));
   }
 
-  /** Forgets what is known, since another cube is shown. */
   clear() {
     this.#known = new Map();
     this.#wanted = [];
@@ -38,7 +35,6 @@ export class ShownCounts {
     setBusy(this.#body.id, false);
   }
 
-  /** @param shown the rows of the table, in their order */
   tell(question: Question, shown: Row[]) {
     this.#question = question;
     for (const [at, row] of shown.entries()) {
@@ -54,7 +50,6 @@ export class ShownCounts {
     }
   }
 
-  /** Asks for the rows that came into view. */
   #look(entries: IntersectionObserverEntry[]) {
     const seen = entries.filter(({ isIntersecting, target }) => isIntersecting && this.#unseen.has(target));
     for (const { target } of seen) {

@@ -30,8 +30,7 @@ function goalsOf(walk: Walk): string[] {
   return [...walk.parts.flatMap((part, at) => singleMoves([part]).map(() => goalOf(at))), last];
 }
 
-/** A cube on both sides after a move. */
-export type Frame = { move: string; views: Record<Side, View> };
+type Frame = { move: string; views: Record<Side, View> };
 
 export class Nets {
   #nets = { normal: emptyNet(), inverse: emptyNet() };
@@ -77,8 +76,7 @@ export class Nets {
     part("play-on").addEventListener("click", () => this.#step(1));
   }
 
-  /** Shows a cube, and the line that leads to it from the scramble.
-   * @param ask for the cube after each of its moves */
+  /** Shows a cube, and the line that leads to it from the scramble. @param ask for the cube after each move */
   show(views: Record<Side, View>, walk: Walk, ask: () => Promise<Frame[]>) {
     this.stop();
     this.#pointed = "";
@@ -96,7 +94,6 @@ export class Nets {
     this.#draw();
   }
 
-  /** Tells of the piece whose sticker is pressed why it is good or bad. */
   #press(side: Side, sticker: number) {
     if (sticker < 0) return;
     // a centre is no piece of these
@@ -105,7 +102,6 @@ export class Nets {
     this.#tellWhy([side]);
   }
 
-  /** @param sides on which it is told of the piece that is chosen */
   #tellWhy(sides: readonly Side[]) {
     const piece = PIECES[part("piece").selectedIndex - 1];
     const { views, choice } = this.#shown();
@@ -114,7 +110,6 @@ export class Nets {
     tell(part("why"), piece ? sentences.join(" ") : "");
   }
 
-  /** Shows the nets as large as the window, or as they were. */
   #enlarge(isLarge: boolean) {
     part("cube").classList.toggle("large", isLarge);
     part("cube-large").textContent = isLarge ? "Smaller" : "Larger";
@@ -135,7 +130,6 @@ export class Nets {
     this.#draw();
   }
 
-  /** Ends what is played. */
   stop() {
     clearInterval(this.#timer);
     this.#timer = 0;
@@ -193,7 +187,6 @@ export class Nets {
     part("played").textContent = `${this.#frame} of ${this.#count}${move ? `: ${move}` : ""}`;
   }
 
-  /** The cube that is seen, and what is marked on it. */
   #shown() {
     const followed = this.#pointed || this.#open || this.#goals[this.#frame] || PLAIN;
     const choice = this.#choice.value === FOLLOW ? followed : this.#choice.value;

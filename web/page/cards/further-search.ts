@@ -9,7 +9,6 @@ import { waitsForAnswers } from "../shared/view.js";
 import type { Calls } from "../shared/questions.js";
 import type { Size } from "../answers/orientations.js";
 
-/** By how many moves longer. */
 export type Further = Found & { slack: number };
 /** `sizes`: how many orientations each axis has, once they are counted; `isHeld`: it waits until it is asked for;
  * `found`: of the axes that were looked through; `left`: those that are still to be looked at. */
@@ -27,8 +26,6 @@ export const FURTHEST = 2;
 /** How long nothing is waited for before it begins, in milliseconds. */
 const IDLE_FOR = 600;
 
-const MILLISECONDS = 1000;
-
 /** `turned`: once it goes on, or no more, or waits to be asked; `looked`: how many axes are looked through. */
 type FurtherActs = {
   turned: () => void;
@@ -44,7 +41,6 @@ export class FurtherSearch {
   #timer = 0;
   #search: Search | null = null;
 
-  /** @param finders one an axis */
   constructor(finders: Calls[], measure: Measure, acts: FurtherActs) {
     this.#finders = finders;
     this.#measure = measure;
@@ -64,7 +60,6 @@ export class FurtherSearch {
     return `Up to ${slack} longer: ${this.#measure.words(sizes)}.`;
   }
 
-  /** Goes on with that. */
   release() {
     if (this.#search === null) return;
     this.#search.isHeld = false;
@@ -87,7 +82,6 @@ export class FurtherSearch {
     this.#wait();
   }
 
-  /** Gives it up; the workers are ended by whoever has them. */
   stop() {
     clearTimeout(this.#timer);
     this.#search = null;
@@ -138,14 +132,13 @@ export class FurtherSearch {
     else this.#goOn();
   }
 
-  /** @param at the place of its axis */
   async #look(search: Search, at: number) {
     search.running.add(at);
     const isStill = () => search === this.#search;
     const begin = performance.now();
     try {
       search.found.set(at, await findOnAxis(this.#finders, at, search.question, () => {}));
-      this.#measure.spend(search.sizes[at], (performance.now() - begin) / MILLISECONDS);
+      this.#measure.spend(search.sizes[at], (performance.now() - begin) / 1000);
     } catch (fault) {
       if (isStill()) this.#broken(search, at, thrownError(fault));
       return;
@@ -155,8 +148,6 @@ export class FurtherSearch {
     if (isStill()) this.#endOf(search);
   }
 
-  /** @param at the place of an axis
-   * @param fault why it isn't looked through */
   #broken(search: Search, at: number, fault: Error) {
     if (!document.hidden) return this.#end(fault);
     // it was given up until the page is seen again

@@ -8,7 +8,7 @@ import { announce, button, counted, element, part, spoken, tell, type PageElemen
 import { LONGEST_NOTE, MOST_CANDIDATES } from "../state/limits.js";
 import { WayTo } from "../state/history.js";
 import {
-  axisName, bracketed, isReduced, newlyReached, reductionsAfter, stateOf, stepNamed,
+  SIDES, axisName, bracketed, isReduced, newlyReached, reductionsAfter, sidesOf, stateOf, stepNamed,
 } from "../shared/offered-steps.js";
 import { withCases } from "../shared/passage.js";
 import { tellAt, withoutMoving } from "../shared/view.js";
@@ -17,7 +17,6 @@ import type { Calls } from "../shared/questions.js";
 import type { KeptWalk } from "../answers/examine.js";
 import type { Moves as Part } from "../../module/shared/sides.js";
 
-/** @returns what a candidate is called where it is said */
 const saidOf = ({ parts, next }: Candidate) =>
   spoken(bracketed(parts)) + (next === "" ? "" : `, ${stateOf(stepNamed(next))}`);
 
@@ -27,17 +26,15 @@ function stageOf({ reached, next }: KeptWalk) {
   return next !== null || isReduced(last) ? 2 : Math.min(1, last.length);
 }
 
-/** @returns how many moves a candidate has, with the reduction that it was kept with */
 const totalOf = ({ totals, next }: KeptWalk) => next?.total ?? lastOf(totals);
 
-/** The reduction that a candidate was kept with, as its row says it, and the first:
- * `DR F/B 6c4e: 4 normal, 7 inverse, 9 with the line`.
- * @returns none without one */
+/** The reduction that a candidate was kept with, `DR F/B 6c4e: 4 normal, 7 inverse, 9 with the line`, and the first. */
 function wordsOfNext({ next }: KeptWalk): string[] {
   if (next === null) return [];
-  const [normal, inverse] = next.lengths.map((length) => length ?? "–");
-  const then = next.first === null ? [] : [`then ${bracketed([next.first])}`];
-  return [`${next.state} ${next.case}: ${normal} normal, ${inverse} inverse, ${next.total} with the line`, ...then];
+  const { dr, case: name, total } = next;
+  const [normal, inverse] = SIDES.map((side) => dr.lengths[side] ?? "–");
+  const words = `${stateOf(stepNamed(dr.step))} ${name}: ${normal} normal, ${inverse} inverse, ${total} with the line`;
+  return [words, ...(dr.moves === "" ? [] : [`then ${dr.moves}`])];
 }
 
 /** What follows a line that isn't reduced: the reduction that it was kept with, or the case of each that may follow. */
@@ -62,7 +59,6 @@ function stepOf(parts: Part[], walk: KeptWalk | null) {
     ...cases.map((each) => element("span", { class: "case" }, each)));
 }
 
-/** A candidate with its walk, if that is known, and its place. */
 type Shown = { candidate: Candidate; walk: KeptWalk | null; at: number };
 
 type KeptActs = { goOn: (parts: Part[], list: List | null) => void; change: (kept: Candidate[]) => void };
@@ -74,13 +70,11 @@ export class KeptCandidates {
   #walks: KeptWalk[] = [];
   /** What was kept before some were taken away, as long as nothing else changed. */
   #before: Candidate[] | null = null;
-  /** the field of each candidate's note */
   #notes: PageElement[] = [];
   #scramble = "";
   #list = part("kept-list");
   #way = new WayTo(part("bar-kept"), part("kept"), part("kept-heading"));
 
-  /** @param calls of its own */
   constructor(calls: Calls, acts: KeptActs) {
     this.#calls = calls;
     this.#acts = acts;
@@ -123,9 +117,7 @@ export class KeptCandidates {
     this.#draw();
   }
 
-  /** Keeps a line, or takes it away if it is kept.
-   * @param pressed under which is said why it isn't kept
-   * @param next the reduction that it is kept with */
+  /** Keeps a line, or takes it away if it is kept. @param pressed under which is said why it isn't kept */
   star(state: State, pressed: HTMLElement, parts: Part[], next = "") {
     const kept = withStar(state.kept, parts, next);
     const isKept = kept.length > state.kept.length;
@@ -143,7 +135,6 @@ export class KeptCandidates {
     announce(`${part("kept-left-words").textContent} A button below the list undoes that.`);
   }
 
-  /** Offers what was kept before, or nothing. */
   #offerBack(before: Candidate[] | null) {
     const isFocused = document.activeElement === part("kept-back");
     this.#before = before;
@@ -158,8 +149,7 @@ export class KeptCandidates {
   }
 
   /** Shows what the engine says of the candidates after a scramble, unless it is shown already.
-   * @param scramble by its face turns
-   * @param written as it is copied */
+   * @param written the scramble as it is copied */
   async describe(scramble: string, written: string) {
     const candidates = this.#candidates;
     if (this.#scramble === written && this.#walks.length === candidates.length) return;
@@ -175,12 +165,10 @@ export class KeptCandidates {
     }
   }
 
-  /** @returns whether a line is kept, by itself or with a reduction */
   has(parts: Part[], next = "") {
     return this.#candidates.some((each) => nameOf(each) === nameOf({ parts, next }));
   }
 
-  /** The candidates with their walks, in the order that is chosen. */
   #sorted(): Shown[] {
     const all = this.#candidates.map((candidate, at) => ({ candidate, walk: this.#walks[at] ?? null, at }));
     const walked = all.flatMap((each) => (each.walk === null ? [] : [{ ...each, walk: each.walk }]));
@@ -205,7 +193,7 @@ export class KeptCandidates {
     tell(part("kept-count"), this.#candidates.length === 0 ? "" : counted(this.#candidates.length, "line"));
   }
 
-  /** @returns what is pressed or typed in, by its name */
+  /** What is pressed or typed in, by its name. */
   #control(name: string) {
     return [...this.#list.querySelectorAll("[data-control]")].find(({ dataset }) => dataset.control === name);
   }
@@ -215,7 +203,7 @@ export class KeptCandidates {
     const [name, said] = [nameOf(candidate), saidOf(candidate)];
     // as long as it isn't known where the best are, over both sides
     const list: List | null = candidate.next === "" || walk?.next === null ? null
-      : { step: stepNamed(candidate.next).name, side: walk?.next.side ?? "both", slack: 0, isAll: false };
+      : { step: stepNamed(candidate.next).name, side: walk ? sidesOf(walk.next.dr) : "both", slack: 0, isAll: false };
     const act = (word: string, control: string, click: () => void) =>
       button(word, { class: "quiet", "data-control": `${control} ${name}`, "aria-label": `${word}: ${said}`, click });
     const field = element("input", {
@@ -238,8 +226,7 @@ export class KeptCandidates {
       ...cubes);
   }
 
-  /** Takes a candidate away; the focus, if it was in its row, goes to the next one.
-   * @param at its place among the candidates */
+  /** Takes a candidate away; the focus, if it was in its row, goes to the next one. */
   #remove(at: number) {
     const row = [...this.#list.children].find((each) => each.contains(document.activeElement));
     const next = row?.nextElementSibling ?? row?.previousElementSibling;

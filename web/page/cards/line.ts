@@ -17,10 +17,8 @@ import type { Walk } from "../answers/examine.js";
 const LONGEST_PASTED = 65536;
 const UNKNOWN = "…";
 const NO_MOVES = "No moves yet";
-/** What is there only if there are moves. */
 const OF_MOVES = ["line-list", "whole", "set-ups", "undo", "bar-total", "bar-undo", "keep-line"];
 
-/** @returns the parts without their last move */
 function withoutLastMove(parts: Part[]): Part[] {
   const last = lastOf(parts);
   const side = lastSideOf(last);
@@ -28,10 +26,9 @@ function withoutLastMove(parts: Part[]): Part[] {
   return [...parts.slice(0, -1), ...(turnsOfStep(left).length === 0 ? [] : [left])];
 }
 
-/** @returns words in a row: `one`, `one and another`, `one, another and a third` */
+/** Words in a row: `one`, `one and another`, `one, another and a third`. */
 const listed = (words: string[]) => [words.slice(0, -1).join(", "), ...words.slice(-1)].filter(Boolean).join(" and ");
 
-/** @returns what is said of a line that ends, or "" */
 function endOf({ parts, facts, reached, totals }: Walk) {
   const total = counted(lastOf(totals), "move");
   if (parts.length === 0) return "";
@@ -42,13 +39,13 @@ function endOf({ parts, facts, reached, totals }: Walk) {
   return `${listed(states)} ${are} reached: ${total}. nissy has no step after a DR: go on by hand.`;
 }
 
-/** What is known of the steps that two lines begin with in common. @param known of each of `parts` */
+/** What is known of the steps that two lines begin with in common. */
 function keptOf<Known>(known: Known[], parts: Part[], others: Part[]) {
   const end = parts.findIndex((each, at) => bracketed([each]) !== bracketed(others.slice(at, at + 1)));
   return end < 0 ? known : known.slice(0, end);
 }
 
-/** @returns what is to be known of a line without brackets before the cube is solved, or "" */
+/** What is to be known of a line without brackets before the cube is solved. */
 function noteOfJoined({ parts, facts }: Walk) {
   if (lastOf(facts).solved || movesOn(parts, "inverse") === "") return "";
   return "Not finished: the inverse moves stand at the end as premoves, and what follows goes before them.";
@@ -66,7 +63,7 @@ function takeLines(field: PageElement, reader: Reader) {
   });
 }
 
-/** `change` says whether it leads back to a row. */
+/** `change` returns whether it leads back to a row. */
 type LineActs = { change: (change: { parts?: Part[]; side?: Side }) => boolean; star: () => void };
 
 export class LineSoFar {
@@ -102,26 +99,22 @@ export class LineSoFar {
     }
   }
 
-  /** Shows on which side moves by hand go. */
   turnTo(side: Side) {
     this.#side = side;
     part("side").textContent = `${side} side`;
     part("switch").textContent = `Switch to the ${otherSide(side)} side`;
   }
 
-  /** Shows whether the line is kept. */
   markKept(isKept: boolean) {
     part("keep-line").textContent = isKept ? "★ Kept" : "☆ Keep";
     part("keep-line").setAttribute("aria-pressed", String(isKept));
   }
 
-  /** Has moves by hand go on another side. */
   turn(side: Side) {
     this.#acts.change({ side });
     announce(`Moves by hand go on the ${side} side.`);
   }
 
-  /** Takes the last step away, if there is one. */
   undoStep() {
     if (this.#parts.length > 0) this.#undo(this.#parts.slice(0, -1));
   }
@@ -174,7 +167,6 @@ export class LineSoFar {
     return (this.#reached[index] ?? []).filter((state) => !holds.includes(state));
   }
 
-  /** @param texts `note`: on what is joined */
   #showWhole(
     { line, joined, total, note = "", fmc = "" }:
       { line: string; joined: string; total: string; note?: string; fmc?: string },
@@ -227,8 +219,7 @@ export class LineSoFar {
   }
 
   /** Puts parts in place of a step: the last is to reach what that one reached. The focus, if it was in its row, goes
-   * to the last row then.
-   * @param focused the place of the button that has it then */
+   * to the last row then. @param focused the place of the button that has it then */
   #replace(index: number, added: Part[], focused: number) {
     const isWithin = part("line-list").children[index].contains(document.activeElement);
     const reached = added.map((_, at) => (at === added.length - 1 ? this.#reached[index] : []));
@@ -256,7 +247,7 @@ export class LineSoFar {
     });
   }
 
-  /** Reads what a field has as steps. @param where for a fault */
+  /** Reads what a field has as steps. */
   async #read(field: PageElement, where: HTMLElement, side: Side, use: (added: Part[]) => void) {
     const [text, parts] = [field.value, this.#parts];
     // what was sent twice, or changed since, isn't added; nor is it to another line

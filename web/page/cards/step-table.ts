@@ -1,9 +1,7 @@
 // The table of the steps that may follow: a row for each, with what solvers choose by, and a cell for each side with
 // the least length, all moves, and how many solutions there are; and what is reached.
 import { counted, element, part } from "../shared/element.js";
-import {
-  SIDES, caseOfStep, isReduced, stateOf, statesOf, titleOf,
-} from "../shared/offered-steps.js";
+import { SIDES, isReduced, stateOf, statesOf, titleOf, type OfferedStep } from "../shared/offered-steps.js";
 import type { Calls } from "../shared/questions.js";
 import type { Counted, Examined, Offer, Unexamined } from "../answers/examine.js";
 import type { Facts } from "../../module/shared/facts.js";
@@ -11,18 +9,21 @@ import type { List } from "../state/address.js";
 import type { Moves, Side } from "../../module/shared/sides.js";
 import type { Step } from "../../module/shared/steps.js";
 
-export type Told = Examined | Unexamined;
+type Told = Examined | Unexamined;
 export type Cube = { facts: Facts; made: number; reached: string[] };
 
 /** The least length, what that makes in all, if moves were made before, and how many solutions there are, or how many
- * of them make that, with a word that is said and not shown.
- * @param made moves before it */
+ * of them make that, with a word that is said and not shown. */
 function wordsOfRow({ length, total, solutions, best }: Counted, made: number): string[] {
   if (length === null) return ["–", "", "none within 20 moves", ""];
   const [some, all] = [best, solutions].map((each) => each.toLocaleString("en"));
   const words = best < solutions ? [`${some} of ${all}`, " solutions"] : [counted(solutions, "solution"), ""];
   return [counted(length, "move"), made > 0 ? `${total} in all, ` : "", ...words];
 }
+
+/** What solvers choose a step by: bad edges, or the case. */
+const caseOfStep = ({ badEdges, case: cases }: Facts, { axis, needs }: OfferedStep) =>
+  (needs === null ? counted(badEdges[axis].length, "bad edge") : cases[axis]);
 
 /** How long the page waits for all offers, to show them together with the cube. */
 const SOON = 50;
@@ -43,14 +44,12 @@ export async function cubeWithOffers(
   return { cube: await cube, offers };
 }
 
-/** @returns whether offers are reductions */
 const areReductions = ([{ step }]: Offer[]) => step.needs !== null;
 
 /** Whether some offers keep what is reached: each does where that is nothing, and a reduction keeps its orientation. */
 const keepsReached = (offers: Offer[], reached: string[]) =>
   reached.length === 0 || (areReductions(offers) && !isReduced(reached));
 
-/** @returns the least length of a group of offers */
 const leastOf = (offers: Offer[]) =>
   Math.min(...offers.flatMap((offer) => SIDES.map((side) => offer[side].length ?? Infinity)));
 
@@ -94,12 +93,10 @@ export class StepTable {
     if (focused) this.cell(focused)?.focus({ preventScroll: true });
   }
 
-  /** @returns the cell of this name, or null */
   cell(name: string) {
     return [...this.#body.querySelectorAll("[data-cell]")].find(({ dataset }) => dataset.cell === name) ?? null;
   }
 
-  /** The cell of the first of the shortest steps that are left, or null. */
   #least() {
     return this.#body.querySelector(".least");
   }
@@ -124,7 +121,6 @@ export class StepTable {
     places.find(mayHave)?.focus({ preventScroll: true });
   }
 
-  /** Shows which list is open. */
   mark(list: List | null) {
     const open = list && `${list.step}.${list.side}`;
     for (const cell of this.#body.querySelectorAll("[data-cell]")) {
@@ -143,7 +139,6 @@ export class StepTable {
     if (!cell?.closest("[inert]")) cell?.click();
   }
 
-  /** @returns what stands above the offers that begin anew */
   #anew({ reached }: Cube) {
     const words = `Going on from here, this ${isReduced(reached) ? "DR" : "EO"} given up`;
     return element("tr", { class: "anew" }, element("td", { colspan: 3, class: "note" }, words));
@@ -160,11 +155,8 @@ export class StepTable {
       ...SIDES.map((side) => this.#cell(offer, side, { least, made: cube.made, list }))));
   }
 
-  #cell(
-    { step, ...counts }: Offer, side: Side,
-    { least, made, list }: { least: number | null; made: number; list: List | null },
-  ) {
-    const count = counts[side];
+  #cell(offer: Offer, side: Side, { least, made, list }: { least: number | null; made: number; list: List | null }) {
+    const [step, count] = [offer.step, offer[side]];
     const [length, all, solutions, word] = wordsOfRow(count, made);
     const name = `${step.name}.${side}`;
     const isLeast = least !== null && count.length === least;

@@ -1,7 +1,7 @@
 // Copies: a line as solvers write it on a scoresheet, the scramble on top and then a step a line with what it reaches
 // and how long it is; and how a text comes to the clipboard.
 import { announce, button, element, part } from "./element.js";
-import { SIDES, bracketed, newlyReached, turnsOfStep } from "./offered-steps.js";
+import { SIDES, bracketed, newlyReached, stateOf, stepNamed } from "./offered-steps.js";
 import { tellAt } from "./view.js";
 import type { KeptWalk, Walk } from "../answers/examine.js";
 import type { Moves as Part } from "../../module/shared/sides.js";
@@ -14,16 +14,14 @@ function stepLine(walk: Walk, index: number) {
   return `${bracketed([walk.parts[index]])} // ${said}`;
 }
 
-/** @returns the steps of a line, a text of a line each */
 const stepLines = (walk: Walk) => walk.parts.map((_, index) => stepLine(walk, index));
 
 export const fmcOf = (scramble: string, walk: Walk) => [scramble, ...stepLines(walk)].join("\n");
 
-/** The first of the reductions that a line was kept with, as its last step. @returns none without one */
-const lineOfNext = ({ next }: KeptWalk): string[] => (!next?.first ? []
-  : [`${bracketed([next.first])} // ${next.state} (${turnsOfStep(next.first).length}/${next.total})`]);
+/** The first of the reductions that a line was kept with, as its last step. */
+const lineOfNext = ({ next }: KeptWalk): string[] => (!next?.dr.moves ? []
+  : [`${next.dr.moves} // ${stateOf(stepNamed(next.dr.step))} (${next.dr.length}/${next.total})`]);
 
-/** Some candidates of a scramble, with their notes. */
 export function fmcOfAll(scramble: string, candidates: { walk: KeptWalk; notes: string[] }[]) {
   const blocks = candidates.map(({ walk, notes }) =>
     [...stepLines(walk), ...lineOfNext(walk), ...notes.map((note) => `// ${note}`)].join("\n"));
@@ -32,7 +30,6 @@ export function fmcOfAll(scramble: string, candidates: { walk: KeptWalk; notes: 
 
 const MOMENT = 1500;
 
-/** Shows a word on a button for a moment. */
 function sayOn(button: HTMLElement, word: string) {
   button.dataset.word ??= button.textContent;
   // no narrower, so that it stays below what presses it
@@ -68,8 +65,7 @@ function showUncopied(text: string) {
   announce("The browser doesn't let the page copy. The text is selected: copy it with the keys of your system.");
 }
 
-/** @param shownIn what shows the text
- * @returns whether it is copied */
+/** @returns whether it is copied */
 export async function copy(text: string, button: HTMLElement, shownIn: HTMLElement | null = null): Promise<boolean> {
   if (text === "") return false;
   let isDone = true;

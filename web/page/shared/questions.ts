@@ -49,7 +49,7 @@ type Followed = ((progress: unknown) => void) | undefined;
 /** An engine in a worker of its own, which the first question starts. */
 export class Calls {
   #queue: WorkerQueue;
-  /** how many answers are waited for, beside tables */
+  /** How many answers are waited for, beside tables. */
   #asked = 0;
   /** The steps whose tables are built. */
   #ready = new Set<string>();
@@ -107,7 +107,6 @@ export class Calls {
     this.end();
   }
 
-  /** The same, also of a worker that has nothing to do. */
   end() {
     this.#ready.clear();
     this.#unready = [];
@@ -115,7 +114,6 @@ export class Calls {
   }
 }
 
-/** How long nothing is asked before it begins. */
 const REST = 150;
 
 type Workers = { calls: Calls; byHand: Calls; list: Calls; finders: Calls[] };
@@ -128,7 +126,6 @@ export class Readiness {
     this.#workers = workers;
   }
 
-  /** Waits for a later moment, or for none. */
   stop() {
     clearTimeout(this.#timer);
   }

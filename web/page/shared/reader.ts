@@ -6,7 +6,6 @@ import { TextInMemory } from "../../module/text/text-calls.js";
 import { WrittenText, type PlainLine } from "../../module/text/written.js";
 import type { SentModule } from "../../module/workers/worker-queue.js";
 
-/** @returns it as it stands there */
 const asItStands = (text: string): PlainLine => ({ line: text, places: Array.from(text, (_, at) => at), leftOut: [] });
 
 const readBy = (instance: Instance, text: string) => new TextInMemory(instance, new WrittenText(text));

@@ -10,19 +10,18 @@ import type { Moves as Part } from "../../module/shared/sides.js";
 
 export type Place = { key: string; scroll: number };
 
-/** @returns a place that came out of the history, or null */
+/** A place that came out of the history, or null. */
 export function placeIn(state: unknown): Place | null {
   const { key, scroll } = fieldsOf(state);
   return typeof key === "string" && typeof scroll === "number" ? { key, scroll } : null;
 }
 
-/** Where one is. */
 export function placeNow(): Place {
   const key = document.activeElement?.dataset.key ?? document.activeElement?.dataset.cell ?? "";
   return { key, scroll: scrollY };
 }
 
-/** @returns the sheet that an entry of the history is of, or 0 */
+/** The sheet that the entry of the history is of, or 0. */
 export function sheetOfEntry(): number {
   const { sheet } = fieldsOf(history.state);
   return typeof sheet === "number" ? sheet : 0;
@@ -37,16 +36,13 @@ function keepInEntry(more: Partial<Place & { sheet: number }>) {
   }
 }
 
-/** Keeps in the entry that is shown where one is. */
 export const keepPlace = () => keepInEntry(placeNow());
 
-/** Keeps in the entry that is shown of which sheet it is. */
 export const keepSheet = (sheet: number) => keepInEntry({ sheet });
 
 const AGAIN_AFTER = 1000;
 let writing = 0;
 
-/** Gives up an address that is still to be written. */
 export const dropAddress = () => clearTimeout(writing);
 
 /** Puts an address into the history, a step as an entry of its own, a moment later if the browser refuses it. */
@@ -64,8 +60,7 @@ function writeAddress(address: string, isStep: boolean, sheet: number) {
 }
 
 /** Puts a state into the address if that has room for it, since a longer one isn't read.
- * @param isStep whether Back leads to what was before
- * @param sheet of the desk that it is of */
+ * @param isStep whether Back leads to what was before */
 export function writeState(state: State, isStep: boolean, sheet: number) {
   const isLong = !fitsAddress(state);
   if (isLong || part("alert").textContent === NOT_IN_ADDRESS) tell(part("alert"), isLong ? NOT_IN_ADDRESS : "");
@@ -81,7 +76,6 @@ export class WayBack {
     this.#place = place;
   }
 
-  /** Whether it still leads somewhere. */
   isOn() {
     return this.#place !== null;
   }
@@ -111,7 +105,6 @@ export class WayTo {
   /** How far the page was scrolled, where the button leads back. */
   #scroll: number | null = null;
 
-  /** @param heading which takes the focus */
   constructor(button: HTMLElement, card: HTMLElement, heading: HTMLElement) {
     this.#button = button;
     button.addEventListener("click", () => {
@@ -138,7 +131,6 @@ export class WayTo {
   }
 }
 
-/** @param next the step that was gone on to, or "" */
 const nameOfSeen = (scramble: string, parts: Part[], next: string) =>
   JSON.stringify([scramble, bracketed(parts), next]);
 
@@ -154,8 +146,7 @@ export class Seen {
     if (taken.length === 1) this.#rows.set(nameOfSeen(scramble, all, ""), { key, list });
   }
 
-  /** From which row the last step was taken, and beside which list, if it alone is undone; or null.
-   * @param left what is left of the line */
+  /** From which row the last step was taken, and beside which list, if it alone is undone; or null. */
   rowBefore({ scramble, parts }: State, left?: Part[]) {
     const before = parts.slice(0, -1);
     const isUndone = parts.length > 0 && left?.length === before.length && bracketed(left) === bracketed(before);

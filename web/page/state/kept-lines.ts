@@ -5,7 +5,6 @@ import { MOST_CANDIDATES } from "./limits.js";
 import type { Candidate, State } from "./address.js";
 import type { Moves as Part } from "../../module/shared/sides.js";
 
-/** @returns what it is known by */
 export const nameOf = ({ parts, next }: Pick<Candidate, "parts" | "next">) => [bracketed(parts), next].join(" ").trim();
 
 /** What is kept once a line is starred, or no longer if it was. */
