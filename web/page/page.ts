@@ -16,7 +16,8 @@ import { refreshRows, type StarActs } from "./shared/rows.js";
 import { ScrambleField, type ScrambleChange } from "./cards/scramble.js";
 import { SolutionList } from "./cards/solutions.js";
 import {
-  ORIENTATIONS, bracketed, isReduced, isReduction, lastSideOf, sidesOf, stateOf, stepNamed,
+  ORIENTATIONS, bracketed, isReduced, isReduction, lastSideOf, sidesOf, stateOf, stepNamed, type Part, type Side,
+  type Step,
 } from "./shared/offered-steps.js";
 import { StepTable, cubeWithOffers, type Cube } from "./cards/step-table.js";
 import {
@@ -25,8 +26,6 @@ import {
 import { tellFailed } from "./shared/watch.js";
 import { titleOfPage, unanswered, whyNotListed, whyUnread } from "./shared/words.js";
 import type { Examined, Offer } from "./answers/examine.js";
-import type { Moves as Part, Side } from "../module/shared/sides.js";
-import type { Step } from "../module/shared/steps.js";
 import type { Reader } from "./shared/reader.js";
 import type { Row } from "./cards/finder.js";
 

@@ -5,16 +5,14 @@ import { lastOf } from "../shared/certain.js";
 import { casesPassed, positionAfter, totalsWith, type Position } from "./position-after.js";
 import { readScramble, type ReadScramble } from "./read-lines.js";
 import {
-  REDUCTIONS, SIDES, bracketed, isOffered, isReduced, openSteps, partOn, singleMoves, stepNamed,
-  type OfferedStep,
+  REDUCTIONS, SIDES, bracketed, isOffered, isReduced, openSteps, partOn, singleMoves, stepNamed, type OfferedStep,
+  type Part, type Side, type Step,
 } from "../shared/offered-steps.js";
 import type { BestRow } from "../../module/shared/ways.js";
 import type { Candidate } from "../state/address.js";
 import type { Count } from "../../module/calls/replies.js";
 import type { Facts } from "../../module/shared/facts.js";
-import type { Moves as Part, Side } from "../../module/shared/sides.js";
 import type { Nissy } from "../../module/nissy.js";
-import type { Step } from "../../module/shared/steps.js";
 
 export type View = { letters: string; facts: Facts };
 /** `total`: the fewest moves in all with a shortest solution, once they are merged, Infinity if there is none;

@@ -1,13 +1,11 @@
 // The rows of a list, by the engine at hand: a step's solutions on a side, or over both, twins as one, each with the
 // cases after it; after moves the fewest in all first.
 import { casesPassed, lineWith, positionAfter, totalsWith } from "./position-after.js";
-import { SIDES, bracketed, facesOnAxisOf, stepNamed } from "../shared/offered-steps.js";
+import { SIDES, bracketed, facesOnAxisOf, stepNamed, type Part, type Step } from "../shared/offered-steps.js";
 import { mergeTwins, type Entry } from "../shared/twins.js";
 import type { BestStep } from "../../module/shared/ways.js";
 import type { List } from "../state/address.js";
-import type { Moves as Part } from "../../module/shared/sides.js";
 import type { Nissy } from "../../module/nissy.js";
-import type { Step } from "../../module/shared/steps.js";
 
 /** `all`: how many there are, if they are the `whole`. */
 export type Rows = { entries: Entry[]; all: number; whole: boolean };

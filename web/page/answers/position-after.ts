@@ -2,9 +2,8 @@
 // how many moves there are in all with those that follow, since some may merge; and the cases that reductions pass on
 // their way.
 import { present } from "../shared/certain.js";
-import { SIDES, bracketed, joined, movesOn, singleMoves } from "../shared/offered-steps.js";
+import { SIDES, bracketed, joined, movesOn, singleMoves, type Part, type Side } from "../shared/offered-steps.js";
 import type { Axis } from "../../module/shared/facts.js";
-import type { Moves as Part, Side } from "../../module/shared/sides.js";
 import type { Nissy } from "../../module/nissy.js";
 
 /** Both on each side; `count`: how many moves were made. */

@@ -3,10 +3,9 @@
 // follows.
 import { NissyFault, type FaultParts } from "../../module/shared/faults.js";
 import { LONGEST_NOTE, MOST_MOVES } from "../state/limits.js";
-import { SIDES, bracketed, joined } from "../shared/offered-steps.js";
+import { SIDES, bracketed, joined, type Part, type Side } from "../shared/offered-steps.js";
 import type { AttemptDoubt } from "../../module/text/attempts.js";
 import type { Candidate } from "../state/address.js";
-import type { Moves as Part, Side } from "../../module/shared/sides.js";
 import type { Nissy } from "../../module/nissy.js";
 import type { PlainLine } from "../../module/text/written.js";
 

@@ -3,9 +3,8 @@
 import { counted, element, inner, type Attributes } from "../shared/element.js";
 import { triggerOf, withCases } from "../shared/passage.js";
 import { starButton, takeButton, type StarActs } from "../shared/rows.js";
-import { SIDES, bracketed, sidesOf } from "../shared/offered-steps.js";
+import { SIDES, bracketed, sidesOf, type Part, type Side } from "../shared/offered-steps.js";
 import type { After } from "../answers/examine.js";
-import type { Moves as Part, Side } from "../../module/shared/sides.js";
 import type { Next, Row } from "./finder.js";
 
 export type RowActs = StarActs & { goOn: (row: Row) => void };

@@ -10,10 +10,9 @@ import { FURTHEST, FurtherSearch, type Further } from "./further-search.js";
 import { GREATEST_SLACK } from "../state/limits.js";
 import { Measure } from "./measure.js";
 import { addRows, roveWithin, showRows, takeNamed } from "../shared/rows.js";
-import { isReduced } from "../shared/offered-steps.js";
+import { isReduced, type Part } from "../shared/offered-steps.js";
 import { isNarrow, withoutMoving } from "../shared/view.js";
 import type { Calls } from "../shared/questions.js";
-import type { Moves } from "../../module/shared/sides.js";
 
 const LOOKING_FOR_BEST = "Looking for the best …";
 /** How many rows are shown at first, so that the table below is seen; of reductions more, since it has no rows then. */
@@ -26,7 +25,7 @@ function shownFirst(reached: string[]) {
 }
 
 /** `longer`: by how many moves orientations may be longer, as it was chosen for the scramble. */
-type CubeOfBest = { scramble: string; parts: Moves[]; reached: string[]; longer: number };
+type CubeOfBest = { scramble: string; parts: Part[]; reached: string[]; longer: number };
 
 type BestActs = RowActs & { shown: () => void; lengthen: (longer: number) => void };
 

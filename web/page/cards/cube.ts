@@ -4,10 +4,9 @@ import { stickersOf } from "../../module/shared/stickers.js";
 import { present } from "../shared/certain.js";
 import { element, part, tell } from "../shared/element.js";
 import { emptyNet, showCube, stickerOf } from "./net.js";
-import { SIDES, axisName, bracketed, newlyReached, singleMoves } from "../shared/offered-steps.js";
+import { SIDES, axisName, bracketed, newlyReached, singleMoves, type Side } from "../shared/offered-steps.js";
 import { withCases } from "../shared/passage.js";
 import { PIECES, whyOf } from "./why.js";
-import type { Side } from "../../module/shared/sides.js";
 import type { View, Walk } from "../answers/examine.js";
 
 const FOLLOW = "follow";

@@ -1,14 +1,12 @@
 // Finds the best ways on, each axis by an engine of its own: what they find is one list, by all moves in all.
 import { lastOf } from "../shared/certain.js";
-import { ORIENTATIONS } from "../shared/offered-steps.js";
+import { ORIENTATIONS, type Part, type Side, type Step } from "../shared/offered-steps.js";
 import type { Calls } from "../shared/questions.js";
-import type { OnSides, Moves as Part } from "../../module/shared/sides.js";
-import type { Step } from "../../module/shared/steps.js";
 
 /** The reduction after an orientation: its moves, what it reaches, its case, and its least length on each side
  * alone. */
 export type Next = {
-  step: Step; part: Part; length: number; marks: string; case: string; lengths: OnSides<number | null>;
+  step: Step; part: Part; length: number; marks: string; case: string; lengths: Record<Side, number | null>;
 };
 /** `twins`: their last turns; `passed`: of a reduction the case before each move; `key`: what the row is known by;
  * `rank`: what rows are put in order by. */

@@ -8,14 +8,13 @@ import { announce, button, counted, element, part, spoken, tell, type PageElemen
 import { LONGEST_NOTE, MOST_CANDIDATES } from "../state/limits.js";
 import { WayTo } from "../state/history.js";
 import {
-  SIDES, axisName, bracketed, isReduced, newlyReached, reductionsAfter, sidesOf, stateOf, stepNamed,
+  SIDES, axisName, bracketed, isReduced, newlyReached, reductionsAfter, sidesOf, stateOf, stepNamed, type Part,
 } from "../shared/offered-steps.js";
 import { withCases } from "../shared/passage.js";
 import { tellAt, withoutMoving } from "../shared/view.js";
 import { MOST_ARE_KEPT, NO_ROOM, wordsOfFault } from "../shared/words.js";
 import type { Calls } from "../shared/questions.js";
 import type { KeptWalk } from "../answers/examine.js";
-import type { Moves as Part } from "../../module/shared/sides.js";
 
 const saidOf = ({ parts, next }: Candidate) =>
   spoken(bracketed(parts)) + (next === "" ? "" : `, ${stateOf(stepNamed(next))}`);

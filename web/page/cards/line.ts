@@ -5,12 +5,11 @@ import { thrownError, lastOf } from "../shared/certain.js";
 import { copy, fmcOf, setUps } from "../shared/copying.js";
 import { announce, button, counted, element, inner, part, spoken, tell, type PageElement } from "../shared/element.js";
 import {
-  bracketed, isReduced, lastSideOf, movesOn, newlyReached, otherSide, statesOf, turnsOfStep,
+  bracketed, isReduced, lastSideOf, movesOn, newlyReached, otherSide, statesOf, turnsOfStep, type Part, type Side,
 } from "../shared/offered-steps.js";
 import { withCases } from "../shared/passage.js";
 import { showFault, wordsOfLeftOut } from "../shared/words.js";
 import type { Calls } from "../shared/questions.js";
-import type { Moves as Part, Side } from "../../module/shared/sides.js";
 import type { Reader } from "../shared/reader.js";
 import type { Walk } from "../answers/examine.js";
 

@@ -6,14 +6,13 @@ import { announce, announceLater, counted, element, part, setBusy, spoken, tell 
 import { Filters, NOT_MOVES, ofCases, offerCases, offerMoves, withTurns } from "./filters.js";
 import { GREATEST_SLACK } from "../state/limits.js";
 import { addRows, roveWithin, showRows, starButton, takeButton, takeNamed, type StarActs } from "../shared/rows.js";
-import { axisName, partOf, reductionsAfter, stateOf, stepNamed, titleOf } from "../shared/offered-steps.js";
+import { axisName, partOf, reductionsAfter, stateOf, stepNamed, titleOf, type Part } from "../shared/offered-steps.js";
 import { signsOfCases, triggerOf } from "../shared/passage.js";
 import { sidesOfTwins, type Entry } from "../shared/twins.js";
 import { isNarrow } from "../shared/view.js";
 import type { Calls } from "../shared/questions.js";
 import type { Rows } from "../answers/list-rows.js";
 import type { List } from "../state/address.js";
-import type { Moves as Part } from "../../module/shared/sides.js";
 
 /** `longest`: how many signs its longest row has; `list`: of those that are shown. */
 export type Group = { name: string; entries: Entry[]; longest: number; list: HTMLElement | null };

@@ -1,13 +1,13 @@
 // The table of the steps that may follow: a row for each, with what solvers choose by, and a cell for each side with
 // the least length, all moves, and how many solutions there are; and what is reached.
 import { counted, element, part } from "../shared/element.js";
-import { SIDES, isReduced, stateOf, statesOf, titleOf, type OfferedStep } from "../shared/offered-steps.js";
+import {
+  SIDES, isReduced, stateOf, statesOf, titleOf, type OfferedStep, type Part, type Side, type Step,
+} from "../shared/offered-steps.js";
 import type { Calls } from "../shared/questions.js";
 import type { Counted, Examined, Offer, Unexamined } from "../answers/examine.js";
 import type { Facts } from "../../module/shared/facts.js";
 import type { List } from "../state/address.js";
-import type { Moves, Side } from "../../module/shared/sides.js";
-import type { Step } from "../../module/shared/steps.js";
 
 type Told = Examined | Unexamined;
 export type Cube = { facts: Facts; made: number; reached: string[] };
@@ -31,7 +31,7 @@ const SOON = 50;
 /** The cube, and the steps that may follow, each with its counts on both sides: by one question, so that none waits for
  * the page. They are waited for a moment, since what is shown by itself is laid out and painted by itself. */
 export async function cubeWithOffers(
-  calls: Calls, typed: { text: string; parts: Moves[] },
+  calls: Calls, typed: { text: string; parts: Part[] },
 ): Promise<{ cube: Told; offers: Promise<Offer[]> }> {
   const acts: { settle: (told: Told | Offer[]) => void; refuse: (fault: unknown) => void }[] = [];
   const told = [0, 1].map(() => new Promise<Told | Offer[]>((settle, refuse) => acts.push({ settle, refuse })));

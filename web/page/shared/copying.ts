@@ -1,10 +1,9 @@
 // Copies: a line as solvers write it on a scoresheet, the scramble on top and then a step a line with what it reaches
 // and how long it is; and how a text comes to the clipboard.
 import { announce, button, element, part } from "./element.js";
-import { SIDES, bracketed, newlyReached, stateOf, stepNamed } from "./offered-steps.js";
+import { SIDES, bracketed, newlyReached, stateOf, stepNamed, type Part } from "./offered-steps.js";
 import { tellAt } from "./view.js";
 import type { KeptWalk, Walk } from "../answers/examine.js";
-import type { Moves as Part } from "../../module/shared/sides.js";
 
 /** A step with its comment, such as `D R B2 // DR R/L (3/10)`: its moves, and those up to its end. */
 function stepLine(walk: Walk, index: number) {

@@ -6,7 +6,8 @@ import { SIDES, joined, type Moves as Part, type Side } from "../../module/share
 import { present } from "./certain.js";
 import type { Step } from "../../module/shared/steps.js";
 
-export { SIDES, bracketed, joined, otherSide } from "../../module/shared/sides.js";
+export { SIDES, bracketed, joined, otherSide, type Moves as Part, type Side } from "../../module/shared/sides.js";
+export type { Step } from "../../module/shared/steps.js";
 
 /** Of a reduction `needs` is the orientation that it keeps. */
 export type OfferedStep = { name: Step; axis: Axis; needs: Step | null };

@@ -2,12 +2,11 @@
 // asked), so that the page never waits. Workers start and build tables while nothing else is asked.
 import { NissyFault } from "../../module/shared/faults.js";
 import { WorkerQueue, type SentModule } from "../../module/workers/worker-queue.js";
-import { ORIENTATIONS, REDUCTIONS, namesOf, openSteps, reductionsAfter } from "./offered-steps.js";
+import { ORIENTATIONS, REDUCTIONS, namesOf, openSteps, reductionsAfter, type Step } from "./offered-steps.js";
 import { waitsForAnswers } from "./view.js";
 import { watched } from "./watch.js";
 import type { Answers } from "../page-worker.js";
 import type { Request } from "../../module/calls/requests.js";
-import type { Step } from "../../module/shared/steps.js";
 
 const UNREADABLE = "An answer of it can't be read.";
 

@@ -1,9 +1,8 @@
 // Twins: solutions of one step that differ in the direction of their last quarter turns alone. The same holds after
 // each, and all have one case.
-import { SIDES } from "./offered-steps.js";
+import { SIDES, type Part } from "./offered-steps.js";
 import type { BestStep } from "../../module/shared/ways.js";
 import type { Facts } from "../../module/shared/facts.js";
-import type { Moves } from "../../module/shared/sides.js";
 
 /** A solution; `others`: the last turns of those twins that share its row; `total`: all moves, if some were made;
  * `cases`: after an orientation; `passed`: before each move of a reduction. */
@@ -18,7 +17,7 @@ const withEnds = (moves: string[], ends: readonly string[]) =>
 const endsOnSides = (twin: string): string[] => twin.replace(")", "").split(/ ?\(/);
 
 /** The moves on each side of a step, and of its twins. @param twins their last turns */
-export const sidesOfTwins = (part: Moves, twins: readonly string[]) => SIDES.flatMap((side, at) => {
+export const sidesOfTwins = (part: Part, twins: readonly string[]) => SIDES.flatMap((side, at) => {
   const ends = new Set(twins.map((twin) => endsOnSides(twin)[at] ?? "").filter(Boolean));
   return part[side] === "" ? [] : withEnds(part[side].split(" "), [...ends]).map((each) => each.join(" "));
 });

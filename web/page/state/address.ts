@@ -2,9 +2,7 @@
 // piece by piece: each piece becomes a part of the state, or is left out and named.
 import { thrownError } from "../shared/certain.js";
 import { GREATEST_SLACK, LONGEST_NOTE, LONGEST_SCRAMBLE, MOST_CANDIDATES } from "./limits.js";
-import { SIDES, isOffered, isReduction, isSide } from "../shared/offered-steps.js";
-import type { Moves as Part, Side } from "../../module/shared/sides.js";
-import type { Step } from "../../module/shared/steps.js";
+import { SIDES, isOffered, isReduction, isSide, type Part, type Side, type Step } from "../shared/offered-steps.js";
 
 export type List = { step: Step; side: Side | "both"; slack: number; isAll: boolean };
 /** `next`: the reduction it was kept with, or "". */

@@ -4,9 +4,8 @@
 import { addressOf, fitsAddress, type List, type State } from "./address.js";
 import { fieldsOf } from "../shared/certain.js";
 import { part, tell } from "../shared/element.js";
-import { bracketed } from "../shared/offered-steps.js";
+import { bracketed, type Part } from "../shared/offered-steps.js";
 import { NOT_IN_ADDRESS } from "../shared/words.js";
-import type { Moves as Part } from "../../module/shared/sides.js";
 
 export type Place = { key: string; scroll: number };
 
