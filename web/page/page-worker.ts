@@ -7,6 +7,7 @@ import { bestRequest } from "../module/calls/requests.js";
 import { serveBy, type Port } from "../module/workers/serve.js";
 import { AXES } from "../module/shared/facts.js";
 import { STEPS, type Step } from "../module/shared/steps.js";
+import { compareLines } from "./answers/compare.js";
 import { orientationsOn } from "./answers/orientations.js";
 import { casesPassed, positionAfter } from "./answers/position-after.js";
 import { readAddressed, readByHand, readWritten } from "./answers/read-lines.js";
@@ -79,8 +80,8 @@ function warmUp(nissy: Nissy, { axis }: { axis: number }, _: unknown, engine: En
 }
 
 const ANSWERS = {
-  afterRow, bestOfAxis, build, examine, framesOf, orientationsOn, readAddressed, readByHand, readWritten, rowsOfList,
-  scrambleOf, walkKept, warmUp,
+  afterRow, bestOfAxis, build, compareLines, examine, framesOf, orientationsOn, readAddressed, readByHand, readWritten,
+  rowsOfList, scrambleOf, walkKept, warmUp,
 };
 
 export type Answers = typeof ANSWERS;

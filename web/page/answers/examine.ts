@@ -70,7 +70,7 @@ function walkOf(nissy: Nissy, scramble: string, parts: Part[]): Walk {
   };
 }
 
-function viewsOf(nissy: Nissy, { lines }: Position): Record<Side, View> {
+export function viewsOf(nissy: Nissy, { lines }: Position): Record<Side, View> {
   const viewOf = (line: string) => ({ letters: nissy.facelets(line), facts: nissy.facts(line) });
   return { normal: viewOf(lines.normal), inverse: viewOf(lines.inverse) };
 }

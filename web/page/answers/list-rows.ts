@@ -42,15 +42,21 @@ function tellCases(nissy: Nissy, name: Step, now: string, entries: Entry[]) {
   }
 }
 
+/** The solutions of a step that don't reach it before their last move; `whole`: whether these are all. */
+export function solutionsOf(nissy: Nissy, { step, side, slack }: Omit<List, "isAll">, now: string) {
+  const found: BestStep[] = nissy.solve(step, now, { sides: side, slack, most: MOST_LISTED + 1 });
+  const solutions = found.slice(0, MOST_LISTED).filter((each) => !SIDES.some((own) => endsIdle(each[own])));
+  return { solutions, whole: found.length <= MOST_LISTED };
+}
+
 export type Asked = { list: List; scramble: string; parts: Part[] };
 
 export function rowsOfList(nissy: Nissy, asked: Asked): Rows {
-  const { step, side, slack, isAll } = asked.list;
-  const now = nissy.lineAfter(asked.scramble, bracketed(asked.parts));
-  const found: BestStep[] = nissy.solve(step, now, { sides: side, slack, most: MOST_LISTED + 1 });
-  const solutions = found.slice(0, MOST_LISTED).filter((each) => !SIDES.some((own) => endsIdle(each[own])));
+  const { list, scramble, parts } = asked;
+  const now = nissy.lineAfter(scramble, bracketed(parts));
+  const { solutions, whole } = solutionsOf(nissy, list, now);
   const ordered = withTotals(nissy, solutions.map((each) => ({ ...each, others: [] })), asked);
-  const entries = isAll ? ordered : mergeTwins(ordered);
-  tellCases(nissy, step, now, entries);
-  return { entries, all: solutions.length, whole: found.length <= MOST_LISTED };
+  const entries = list.isAll ? ordered : mergeTwins(ordered);
+  tellCases(nissy, list.step, now, entries);
+  return { entries, all: solutions.length, whole };
 }

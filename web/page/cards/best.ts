@@ -30,8 +30,6 @@ type CubeOfBest = { scramble: string; parts: Part[]; reached: string[]; longer: 
 type BestActs = RowActs & { shown: () => void; lengthen: (longer: number) => void };
 
 export class BestContinuations {
-  #finders: Calls[];
-  #acts: BestActs;
   #kinds = filtersOfBest();
   #filters = new Filters("best", part("best-note"), this.#kinds, () => this.#filtered());
   #question: Question | null = null;
@@ -53,10 +51,8 @@ export class BestContinuations {
 
   /** @param finders of its own, one an axis
    * @param calls that tell more of rows that are seen */
-  constructor(finders: Calls[], calls: Calls, acts: BestActs) {
-    this.#finders = finders;
+  constructor(private readonly finders: Calls[], calls: Calls, private readonly acts: BestActs) {
     this.#counts = new ShownCounts(calls, this.#body);
-    this.#acts = acts;
     this.#measure = new Measure(() => this.#turnFurther());
     this.#further = new FurtherSearch(finders, this.#measure, {
       turned: () => this.#turned(),
@@ -113,7 +109,7 @@ export class BestContinuations {
   }
 
   end() {
-    for (const finder of this.#finders) finder.end();
+    for (const finder of this.finders) finder.end();
   }
 
   /** Offers the cases of all rows once that is seen, which has them found. */
@@ -147,7 +143,7 @@ export class BestContinuations {
 
   #stop() {
     this.#further.stop();
-    for (const finder of this.#finders) finder.stop();
+    for (const finder of this.finders) finder.stop();
   }
 
   #stopped() {
@@ -163,7 +159,7 @@ export class BestContinuations {
     if (this.#question === null) return;
     const { value } = part("best-slack");
     if (this.#question.reached.length > 0) this.#longerReductions = value;
-    else this.#acts.lengthen(Number(value));
+    else this.acts.lengthen(Number(value));
     this.#ask();
   }
 
@@ -255,7 +251,7 @@ export class BestContinuations {
     part("best-note").textContent = LOOKING_FOR_BEST;
     try {
       for (const slack of known || wanted === 0 ? [wanted] : [0, wanted]) {
-        const found: Further = { ...await findAll(this.#finders, { ...question, slack, isWhole }, tell), slack };
+        const found: Further = { ...await findAll(this.finders, { ...question, slack, isWhole }, tell), slack };
         if (!isStill()) return;
         this.#found.keep({ ...question, slack }, found);
         this.#progress = found;
@@ -310,7 +306,7 @@ export class BestContinuations {
     this.#progress = progress;
     this.#working(false);
     this.#draw();
-    this.#acts.shown();
+    this.acts.shown();
   }
 
   /** The rows that the filters leave. */
@@ -373,7 +369,7 @@ export class BestContinuations {
     this.#seen = rows;
     showRows(this.#body, () => {
       if (stay === 0) this.#body.replaceChildren();
-      addRows(this.#body, rows.slice(stay).map((row) => bestRow(row, this.#acts)));
+      addRows(this.#body, rows.slice(stay).map((row) => bestRow(row, this.acts)));
     }, part("best-heading"));
   }
 }

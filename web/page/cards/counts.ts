@@ -9,8 +9,6 @@ import type { After } from "../answers/examine.js";
 import type { Question, Row } from "./finder.js";
 
 export class ShownCounts {
-  #calls: Calls;
-  #body: HTMLElement;
   #question: Question | null = null;
   /** By the keys of rows; null while it is asked for. */
   #known = new Map<string, After | null>();
@@ -21,9 +19,7 @@ export class ShownCounts {
   #isAsking = false;
   #observer: IntersectionObserver;
 
-  constructor(calls: Calls, body: HTMLElement) {
-    this.#calls = calls;
-    this.#body = body;
+  constructor(private readonly calls: Calls, private readonly body: HTMLElement) {
     this.#observer = new IntersectionObserver((entries) => this.#look(entries));
   }
 
@@ -32,13 +28,13 @@ export class ShownCounts {
     this.#wanted = [];
     this.#observer.disconnect();
     this.#unseen.clear();
-    setBusy(this.#body.id, false);
+    setBusy(this.body.id, false);
   }
 
   tell(question: Question, shown: Row[]) {
     this.#question = question;
     for (const [at, row] of shown.entries()) {
-      const element = this.#body.children[at];
+      const element = this.body.children[at];
       if (this.#told.has(element)) continue;
       this.#told.add(element);
       const after = this.#known.get(row.key);
@@ -46,7 +42,7 @@ export class ShownCounts {
       if (row.next === null || this.#known.has(row.key)) continue;
       this.#unseen.set(element, row);
       this.#observer.observe(element);
-      setBusy(this.#body.id, true);
+      setBusy(this.body.id, true);
     }
   }
 
@@ -66,7 +62,7 @@ export class ShownCounts {
     this.#isAsking = true;
     for (let row = this.#wanted.shift(); row; row = this.#wanted.shift()) await this.#ask(row);
     this.#isAsking = false;
-    setBusy(this.#body.id, false);
+    setBusy(this.body.id, false);
   }
 
   async #ask(row: Row) {
@@ -75,10 +71,10 @@ export class ShownCounts {
     const { scramble, parts } = present(this.#question);
     const { step, part: first } = present(row.next);
     const asked = { scramble, parts: [...parts, row.part], step, first };
-    const found = await this.#calls.ask("afterRow", asked).catch(() => null);
+    const found = await this.calls.ask("afterRow", asked).catch(() => null);
     if (known !== this.#known || found === null) return;
     known.set(row.key, found);
-    const shown = takeNamed(this.#body, row.key)?.closest("tr");
+    const shown = takeNamed(this.body, row.key)?.closest("tr");
     if (shown) tellAfter(shown, row, found);
   }
 }

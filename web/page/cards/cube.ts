@@ -10,7 +10,6 @@ import { PIECES, whyOf } from "./why.js";
 import type { View, Walk } from "../answers/examine.js";
 
 const FOLLOW = "follow";
-const PLAIN = "none";
 const BEAT = 700;
 
 /** The places of the pieces that a choice marks, and what they are called; a choice is `EO F/B` or `DR U/D`. */
@@ -19,6 +18,18 @@ function marksOf({ badEdges, badCorners, misplacedEdges, case: cases }: Facts, c
   const axis = present(AXES.find((each) => axisName(each) === name));
   if (kind === "EO") return { pieces: badEdges[axis], words: `${badEdges[axis].length} bad` };
   return { pieces: [...badCorners[axis], ...misplacedEdges[axis]], words: cases[axis] };
+}
+
+/** Shows a cube on a net, with what a choice marks of it. @param reached what the line reached, which hides no colour
+ * @returns what is said of the marks */
+export function showMarked(net: SVGElement, side: Side, { letters, facts }: View, choice: string, reached = choice) {
+  const marks = choice === "" ? null : marksOf(facts, choice);
+  const words = marks === null ? "" : `${choice}: ${marks.words}`;
+  const names = marks === null ? "" : `, ${marks.pieces.join(" ") || "none"}`;
+  const title = `The cube on the ${side} side${words === "" ? "" : `; ${words}${names}`}`;
+  const isReached = marks?.pieces.length === 0 && choice === reached;
+  showCube(net, letters, title, marks === null || isReached ? null : new Set(stickersOf(marks.pieces)));
+  return words === "" ? "" : ` · ${words}`;
 }
 
 /** What each move of a line leads to, as far as it is reached, and last what is reached in the end. */
@@ -104,7 +115,7 @@ export class Nets {
   #tellWhy(sides: readonly Side[]) {
     const piece = PIECES[part("piece").selectedIndex - 1];
     const { views, choice } = this.#shown();
-    const why = (side: Side) => whyOf(views[side].letters, piece, choice === PLAIN ? "" : choice);
+    const why = (side: Side) => whyOf(views[side].letters, piece, choice);
     const sentences = sides.map((side) => `${side === "normal" ? "Normal" : "Inverse"}: ${piece && why(side)}`);
     tell(part("why"), piece ? sentences.join(" ") : "");
   }
@@ -181,27 +192,18 @@ export class Nets {
   #draw() {
     if (this.#views === null) return;
     const { views, choice } = this.#shown();
-    for (const side of SIDES) this.#drawSide(side, views[side], choice);
+    for (const side of SIDES) {
+      part(`marked-${side}`).textContent =
+        showMarked(this.#nets[side], side, views[side], choice, this.#goals[this.#count]);
+    }
     const move = this.#frames?.[this.#frame].move;
     part("played").textContent = `${this.#frame} of ${this.#count}${move ? `: ${move}` : ""}`;
   }
 
   #shown() {
-    const followed = this.#pointed || this.#open || this.#goals[this.#frame] || PLAIN;
+    const followed = this.#pointed || this.#open || this.#goals[this.#frame];
     const choice = this.#choice.value === FOLLOW ? followed : this.#choice.value;
     const frame = this.#frame === this.#count ? null : this.#frames?.[this.#frame];
     return { views: present(frame?.views ?? this.#views), choice };
-  }
-
-  #drawSide(side: Side, { letters, facts }: View, choice: string) {
-    const marks = choice === PLAIN ? null : marksOf(facts, choice);
-    const words = marks === null ? "" : `${choice}: ${marks.words}`;
-    const names = marks === null ? "" : `, ${marks.pieces.join(" ") || "none"}`;
-    const title = `The cube on the ${side} side${words === "" ? "" : `; ${words}${names}`}`;
-    // what the line reached hides no colour
-    const isReached = marks?.pieces.length === 0 && choice === this.#goals[this.#count];
-    const places = marks === null || isReached ? null : new Set(stickersOf(marks.pieces));
-    showCube(this.#nets[side], letters, title, places);
-    part(`marked-${side}`).textContent = words === "" ? "" : ` · ${words}`;
   }
 }

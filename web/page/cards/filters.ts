@@ -105,7 +105,6 @@ export const filtersOfBest = () => [
 
 /** The filters of a card, which says how many of them are on, and if they leave nothing; a button clears them. */
 export class Filters<Row> {
-  #kinds: Kind<Row>[];
   #badge: PageElement;
   #button: PageElement;
   #none: PageElement;
@@ -113,8 +112,7 @@ export class Filters<Row> {
   /** @param name with which the ids begin
    * @param note that says what is left
    * @param changed says whether there are rows that may be left */
-  constructor(name: string, note: HTMLElement, kinds: Kind<Row>[], changed: () => boolean) {
-    this.#kinds = kinds;
+  constructor(name: string, note: HTMLElement, private kinds: Kind<Row>[], changed: () => boolean) {
     this.#badge = part(`${name}-on`);
     this.#button = part(`${name}-clear`);
     this.#none = part(`${name}-none`);
@@ -132,7 +130,7 @@ export class Filters<Row> {
   }
 
   use(kinds: Kind<Row>[]) {
-    this.#kinds = kinds;
+    this.kinds = kinds;
   }
 
   clear() {
@@ -141,7 +139,7 @@ export class Filters<Row> {
 
   /** What is left of rows, or null if a field can't be read. */
   left(rows: Row[]): Row[] | null {
-    const tests = this.#kinds.map(({ field, test }) => test(part(field).value));
+    const tests = this.kinds.map(({ field, test }) => test(part(field).value));
     const read = tests.flatMap((test) => test ?? []);
     return read.length < tests.length ? null : rows.filter((row) => read.every((test) => test(row)));
   }
@@ -160,6 +158,6 @@ export class Filters<Row> {
   }
 
   #fields() {
-    return this.#kinds.map(({ field }) => part(field));
+    return this.kinds.map(({ field }) => part(field));
   }
 }

@@ -35,16 +35,12 @@ type FurtherActs = {
 };
 
 export class FurtherSearch {
-  #finders: Calls[];
-  #acts: FurtherActs;
-  #measure: Measure;
   #timer = 0;
   #search: Search | null = null;
 
-  constructor(finders: Calls[], measure: Measure, acts: FurtherActs) {
-    this.#finders = finders;
-    this.#measure = measure;
-    this.#acts = acts;
+  constructor(
+    private readonly finders: Calls[], private readonly measure: Measure, private readonly acts: FurtherActs,
+  ) {
     document.addEventListener("visibilitychange", () => (document.hidden ? this.#pause() : this.#wait()));
   }
 
@@ -57,13 +53,13 @@ export class FurtherSearch {
   held() {
     if (!this.#search?.isHeld) return "";
     const { question: { slack }, sizes } = this.#search;
-    return `Up to ${slack} longer: ${this.#measure.words(sizes)}.`;
+    return `Up to ${slack} longer: ${this.measure.words(sizes)}.`;
   }
 
   release() {
     if (this.#search === null) return;
     this.#search.isHeld = false;
-    this.#acts.turned();
+    this.acts.turned();
     this.#goOn();
   }
 
@@ -91,15 +87,15 @@ export class FurtherSearch {
   #pause() {
     clearTimeout(this.#timer);
     if (this.#search === null) return;
-    for (const at of this.#search.running) this.#finders[at].stop();
-    this.#acts.turned();
+    for (const at of this.#search.running) this.finders[at].stop();
+    this.acts.turned();
   }
 
   #wait() {
     clearTimeout(this.#timer);
     if (this.#search === null) return;
     this.#timer = setTimeout(() => this.#goOn(), IDLE_FOR);
-    this.#acts.turned();
+    this.acts.turned();
   }
 
   #goOn() {
@@ -118,7 +114,7 @@ export class FurtherSearch {
     const isStill = () => search === this.#search;
     try {
       const { question } = search;
-      const sizes = await Promise.all(this.#finders.map((finder, axis) =>
+      const sizes = await Promise.all(this.finders.map((finder, axis) =>
         finder.ask("orientationsOn", { axis, question })));
       if (!isStill()) return;
       search.sizes = sizes;
@@ -127,8 +123,8 @@ export class FurtherSearch {
       if (isStill() && !document.hidden) this.#end(thrownError(fault));
       return;
     }
-    search.isHeld = !this.#measure.allows(search.sizes);
-    if (search.isHeld) this.#acts.turned();
+    search.isHeld = !this.measure.allows(search.sizes);
+    if (search.isHeld) this.acts.turned();
     else this.#goOn();
   }
 
@@ -137,8 +133,8 @@ export class FurtherSearch {
     const isStill = () => search === this.#search;
     const begin = performance.now();
     try {
-      search.found.set(at, await findOnAxis(this.#finders, at, search.question, () => {}));
-      this.#measure.spend(search.sizes[at], (performance.now() - begin) / 1000);
+      search.found.set(at, await findOnAxis(this.finders, at, search.question, () => {}));
+      this.measure.spend(search.sizes[at], (performance.now() - begin) / 1000);
     } catch (fault) {
       if (isStill()) this.#broken(search, at, thrownError(fault));
       return;
@@ -156,16 +152,16 @@ export class FurtherSearch {
 
   #end(fault: Error) {
     this.stop();
-    this.#acts.ended(fault);
+    this.acts.ended(fault);
   }
 
   /** Goes on with the next axis, or with one more move, or ends. @param search one of whose axes is looked through */
   #endOf(search: Search) {
-    this.#acts.looked(search.found.size, ORIENTATIONS.length);
+    this.acts.looked(search.found.size, ORIENTATIONS.length);
     if (search.left.length > 0 || search.running.size > 0) return this.#goOn();
     const { question, found } = search;
-    this.#acts.found({ ...together([...found.values()], question), slack: question.slack });
+    this.acts.found({ ...together([...found.values()], question), slack: question.slack });
     this.begin(question);
-    if (this.#search === null) this.#acts.ended(null);
+    if (this.#search === null) this.acts.ended(null);
   }
 }

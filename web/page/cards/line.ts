@@ -66,9 +66,6 @@ function takeLines(field: PageElement, reader: Reader) {
 type LineActs = { change: (change: { parts?: Part[]; side?: Side }) => boolean; star: () => void };
 
 export class LineSoFar {
-  #calls: Calls;
-  #reader: Reader;
-  #acts: LineActs;
   #parts: Part[] = [];
   /** what each step reached as long as nothing took it away */
   #reached: string[][] = [];
@@ -78,10 +75,7 @@ export class LineSoFar {
   #words: Record<"moves" | "reaches" | "lost" | "count", PageElement>[] = [];
   #side: Side = "normal";
 
-  constructor(calls: Calls, reader: Reader, acts: LineActs) {
-    this.#calls = calls;
-    this.#reader = reader;
-    this.#acts = acts;
+  constructor(private readonly calls: Calls, private readonly reader: Reader, private readonly acts: LineActs) {
     part("own-form").addEventListener("submit", (event) => {
       event.preventDefault();
       this.#add();
@@ -93,8 +87,7 @@ export class LineSoFar {
     part("clear").addEventListener("click", () => this.#undo([]));
     part("keep-line").addEventListener("click", () => acts.star());
     for (const name of ["bracketed", "joined", "fmc"]) {
-      const text = part(name);
-      part(`copy-${name}`).addEventListener("click", (event) => copy(text.textContent, event.currentTarget, text));
+      part(`copy-${name}`).addEventListener("click", (event) => copy(part(name).textContent, event.currentTarget));
     }
   }
 
@@ -110,7 +103,7 @@ export class LineSoFar {
   }
 
   turn(side: Side) {
-    this.#acts.change({ side });
+    this.acts.change({ side });
     announce(`Moves by hand go on the ${side} side.`);
   }
 
@@ -197,7 +190,7 @@ export class LineSoFar {
       class: "moves wide", value: text, spellcheck: "false", autocapitalize: "off", autocomplete: "off",
       maxlength: 4096, "aria-label": `Step ${index + 1}`,
     });
-    takeLines(field, this.#reader);
+    takeLines(field, this.reader);
     const fault = element("div", { class: "fault", hidden: true });
     const leave = () => {
       item.replaceChildren(...shown);
@@ -231,7 +224,7 @@ export class LineSoFar {
 
   #undo(parts: Part[]) {
     const isOneLess = parts.length === this.#parts.length - 1;
-    const isBack = this.#acts.change(isOneLess ? { parts, side: lastSideOf(lastOf(this.#parts)) } : { parts });
+    const isBack = this.acts.change(isOneLess ? { parts, side: lastSideOf(lastOf(this.#parts)) } : { parts });
     announce(parts.length === 0 ? "The line is empty." : `The line is ${spoken(bracketed(parts))}.`);
     // a field that is typed in would bring the keyboard of a phone up, beside the row
     if (parts.length === 0) part(isBack ? "line-heading" : "own").focus({ preventScroll: true });
@@ -242,7 +235,7 @@ export class LineSoFar {
     const field = part("own");
     this.#read(field, part("own-fault"), this.#side, (added) => {
       field.value = "";
-      if (added.length > 0) this.#acts.change({ parts: [...parts, ...added] });
+      if (added.length > 0) this.acts.change({ parts: [...parts, ...added] });
     });
   }
 
@@ -251,9 +244,9 @@ export class LineSoFar {
     const [text, parts] = [field.value, this.#parts];
     // what was sent twice, or changed since, isn't added; nor is it to another line
     const isStill = () => field.value === text && this.#parts === parts && field.isConnected;
-    const plain = this.#reader.plainLine(text);
+    const plain = this.reader.plainLine(text);
     try {
-      const added = await this.#calls.ask("readByHand", { text: plain.line, side });
+      const added = await this.calls.ask("readByHand", { text: plain.line, side });
       if (!isStill()) return;
       showFault(where, field, plain, null, text);
       use(added);

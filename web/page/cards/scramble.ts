@@ -34,11 +34,7 @@ const newSheet = ({ scramble, steps, candidates }: Attempt, written: Written): N
 });
 
 export class ScrambleField {
-  #calls: Calls;
-  #reader: Reader;
-  #acts: ScrambleActs;
   #field = part("scramble");
-  #backdrop = part("scramble-marks");
   #timer = 0;
   #leftOut: string[] = [];
   #isRead = false;
@@ -56,10 +52,7 @@ export class ScrambleField {
   #shown = "";
   #doubt: AttemptDoubt | null = null;
 
-  constructor(calls: Calls, reader: Reader, acts: ScrambleActs) {
-    this.#calls = calls;
-    this.#reader = reader;
-    this.#acts = acts;
+  constructor(private readonly calls: Calls, private readonly reader: Reader, private readonly acts: ScrambleActs) {
     this.#field.maxLength = LONGEST_SCRAMBLE;
     this.#field.addEventListener("input", (event) => this.#typed(event instanceof InputEvent ? event.inputType : ""));
     this.#field.addEventListener("paste", (event) => {
@@ -68,7 +61,7 @@ export class ScrambleField {
       const sheets = sheetsIn(pasted);
       if (sheets.length > 0) {
         event.preventDefault();
-        return this.#acts.take(sheets);
+        return this.acts.take(sheets);
       }
       this.#isReplaced = selectionStart === 0 && selectionEnd === value.length;
       // the browser takes as much of it as the field has room for, without a word
@@ -78,9 +71,6 @@ export class ScrambleField {
       const { value, selectionStart, selectionEnd } = this.#field;
       const isAll = value.trim() !== "" && selectionStart === 0 && selectionEnd === value.length;
       if (isAll && inputType.startsWith("insert") && inputType !== "insertFromPaste") this.#isEmptied = true;
-    });
-    this.#field.addEventListener("scroll", () => {
-      this.#backdrop.scrollTop = this.#field.scrollTop;
     });
     part("random").addEventListener("click", () => this.#draw());
     for (const example of document.querySelectorAll("[data-example]")) {
@@ -100,7 +90,7 @@ export class ScrambleField {
   /** Shows a scramble that didn't come from the field. */
   show(scramble: string) {
     clearTimeout(this.#timer);
-    if (asTyped(this.#reader.plainLine(this.#field.value)) !== scramble) {
+    if (asTyped(this.reader.plainLine(this.#field.value)) !== scramble) {
       this.#field.value = scramble;
       this.#leftOut = [];
     }
@@ -113,8 +103,8 @@ export class ScrambleField {
   /** Shows what is wrong with the scramble, or that nothing is; and how it is read, where anything is left out. */
   judge(fault: Error | null, read: ReadScramble | null) {
     const text = this.#field.value;
-    const plain = this.#reader.plainLine(text);
-    this.#markPlace(text, showFault(part("scramble-fault"), this.#field, plain, fault, text));
+    const plain = this.reader.plainLine(text);
+    showFault(part("scramble-fault"), this.#field, plain, fault, text);
     if (!fault && part("scramble-doubt").hidden) this.tellDoubt(this.#doubt);
     // of what is typed not after each sign
     if (fault) announceLater(part("scramble-fault").children[0].textContent);
@@ -156,18 +146,8 @@ export class ScrambleField {
     if (isFolded && !areBeside() && isWithin) part("scramble-edit").focus({ preventScroll: true });
   }
 
-  /** Marks a place in the field, by a text below it. */
-  #markPlace(text: string, place: number | null) {
-    if (place === null) return this.#backdrop.replaceChildren();
-    const sign = String.fromCodePoint(text.codePointAt(place) ?? 32);
-    const word = /^[^\s()]+/.exec(text.slice(place))?.[0] ?? sign;
-    this.#backdrop.replaceChildren(text.slice(0, place), element("mark", {}, word), text.slice(place + word.length));
-    this.#backdrop.scrollTop = this.#field.scrollTop;
-  }
-
   #typed(how: string) {
     clearTimeout(this.#timer);
-    this.#markPlace("", null);
     const isReplaced = this.#isReplaced;
     this.#isReplaced = false;
     // what is pasted is whole
@@ -180,8 +160,8 @@ export class ScrambleField {
     const text = this.#field.value;
     // an empty line more is nothing new
     if (!isPasted && this.#isRead && text.trim() === this.#shown.trim()) return;
-    const attempts = this.#reader.attempts(text);
-    const plain = this.#reader.plainLine(text);
+    const attempts = this.reader.attempts(text);
+    const plain = this.reader.plainLine(text);
     const whole = spaced(attempts[0].scramble) === spaced(plain) ? asTyped(plain) : null;
     const others = attempts.slice(1).map((each, at) => newSheet(each, { text, at: at + 1 }));
     this.#take({ text, at: 0 }, attempts, { isReplaced, whole, others: isPasted ? others : [] });
@@ -190,7 +170,7 @@ export class ScrambleField {
   /** Reads a scramble of a text that was pasted with others, as if it alone had been pasted.
    * @returns whether it is there: the page that kept the text may have had another reader */
   open(written: Written) {
-    const attempts = this.#reader.attempts(written.text);
+    const attempts = this.reader.attempts(written.text);
     const isThere = Object.hasOwn(attempts, written.at);
     if (isThere) this.#take(written, attempts, { isReplaced: true, whole: null, others: [] });
     return isThere;
@@ -219,7 +199,7 @@ export class ScrambleField {
     // Back leads to the scramble that was deleted and its lines, also once another one is typed
     const isStep = (isNew || this.#isEmptied) && !this.#isDraft;
     this.#isDraft = this.#isEmptied;
-    this.#acts.change(line, { isNew, isDrawn: false, isDraft: this.#isDraft, fmc, isStep, others });
+    this.acts.change(line, { isNew, isDrawn: false, isDraft: this.#isDraft, fmc, isStep, others });
     // one that has steps is in doubt with these
     if (fmc === null) this.#doubt = doubt;
   }
@@ -244,13 +224,13 @@ export class ScrambleField {
   #put(scramble: string) {
     const isStep = !this.#isDraft;
     this.show(scramble);
-    this.#acts.change(scramble, { isNew: true, isDrawn: true, isDraft: false, fmc: null, isStep, others: [] });
+    this.acts.change(scramble, { isNew: true, isDrawn: true, isDraft: false, fmc: null, isStep, others: [] });
   }
 
   async #draw() {
     const [seed] = crypto.getRandomValues(new BigUint64Array(1));
     try {
-      const scramble = await this.#calls.ask("scrambleOf", { seed });
+      const scramble = await this.calls.ask("scrambleOf", { seed });
       this.#put(scramble);
       announce(`Random scramble: ${scramble}`);
     } catch (fault) {

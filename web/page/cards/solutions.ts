@@ -52,8 +52,6 @@ type ListActs = StarActs & {
 };
 
 export class SolutionList {
-  #calls: Calls;
-  #acts: ListActs;
   #name = "";
   #list: List | null = null;
   #rows: Rows | null = null;
@@ -67,9 +65,7 @@ export class SolutionList {
   #groups = part("solutions-groups");
 
   /** @param calls of its own */
-  constructor(calls: Calls, acts: ListActs) {
-    this.#calls = calls;
-    this.#acts = acts;
+  constructor(private readonly calls: Calls, private readonly acts: ListActs) {
     offerMoves("slack", GREATEST_SLACK);
     part("slack").addEventListener("change", () => acts.change({ slack: Number(part("slack").value) }));
     part("list-side").addEventListener("change", () => acts.change({ side: part("list-side").value as List["side"] }));
@@ -84,7 +80,7 @@ export class SolutionList {
 
   end() {
     this.#name = "";
-    this.#calls.end();
+    this.calls.end();
   }
 
   /** Looks for a list, or shows that none is open; one that is shown already stays. Says whether it is shown in the
@@ -92,9 +88,9 @@ export class SolutionList {
   async show(name: string, list: List | null, line: { scramble: string; parts: Part[] } | null) {
     if (name === this.#name) return false;
     this.#name = name;
-    this.#calls.stop();
+    this.calls.stop();
     // the engine searches while the card is drawn; what is wrong is said where it is waited for
-    const asked = list && line && this.#calls.ask("rowsOfList", { list, scramble: line.scramble, parts: line.parts });
+    const asked = list && line && this.calls.ask("rowsOfList", { list, scramble: line.scramble, parts: line.parts });
     asked?.catch(() => {});
     this.#open(list);
     if (!asked) return false;
@@ -265,11 +261,11 @@ export class SolutionList {
     const twins = others.map((other) => `or ${spoken(other)}`);
     const said = { passed, cases: cases.map(({ axis, name }) => `${axis} ${name}`), twins };
     return element("li", {},
-      takeButton(moves, { key: moves, isSeen: this.#acts.isSeen(added), ...said }, () => this.#acts.take(added, moves)),
+      takeButton(moves, { key: moves, isSeen: this.acts.isSeen(added), ...said }, () => this.acts.take(added, moves)),
       ...(others.length === 0 ? [] : [element("small", { class: "twins" }, `/ ${others.join(" / ")}`)]),
       ...(cases.length === 0 ? [] : [element("span", { class: "cases" }, ...cases.map(({ axis, name, state }) =>
         element("span", { class: "case", "data-marks": state }, `${axis} ${name}`)))]),
       element("span", { class: "acts" },
-        starButton(moves, () => this.#acts.isStarred(added), (star) => this.#acts.star(star, added))));
+        starButton(moves, () => this.acts.isStarred(added), (star) => this.acts.star(star, added))));
   }
 }

@@ -22,7 +22,7 @@ function wordsOfRow({ length, total, solutions, best }: Counted, made: number): 
 }
 
 /** What solvers choose a step by: bad edges, or the case. */
-const caseOfStep = ({ badEdges, case: cases }: Facts, { axis, needs }: OfferedStep) =>
+export const caseOfStep = ({ badEdges, case: cases }: Facts, { axis, needs }: OfferedStep) =>
   (needs === null ? counted(badEdges[axis].length, "bad edge") : cases[axis]);
 
 /** How long the page waits for all offers, to show them together with the cube. */
@@ -54,13 +54,10 @@ const leastOf = (offers: Offer[]) =>
   Math.min(...offers.flatMap((offer) => SIDES.map((side) => offer[side].length ?? Infinity)));
 
 export class StepTable {
-  #chosen: (step: Step, side: Side) => void;
   #focused: HTMLElement | null = null;
   #body = part("steps-body");
 
-  constructor(chosen: (step: Step, side: Side) => void) {
-    this.#chosen = chosen;
-  }
+  constructor(private readonly chosen: (step: Step, side: Side) => void) {}
 
   /** Dims the offers of the last cube, with all that rests on them, until those of the next one are there. */
   hold() {
@@ -167,7 +164,7 @@ export class StepTable {
       "data-cell": name,
       "aria-pressed": String(list !== null && name === `${list.step}.${list.side}`),
       "aria-label": `${titleOf(step)}, ${side} side: ${length}, ${all}${solutions}${word}${shortest}`,
-      click: () => this.#chosen(step.name, side),
+      click: () => this.chosen(step.name, side),
     }, element("strong", {}, length), element("small", {}, all, element("span", { class: "together" }, solutions))));
   }
 }

@@ -65,7 +65,7 @@ function showUncopied(text: string) {
 }
 
 /** @returns whether it is copied */
-export async function copy(text: string, button: HTMLElement, shownIn: HTMLElement | null = null): Promise<boolean> {
+export async function copy(text: string, button: HTMLElement): Promise<boolean> {
   if (text === "") return false;
   let isDone = true;
   try {
@@ -73,33 +73,22 @@ export async function copy(text: string, button: HTMLElement, shownIn: HTMLEleme
   } catch {
     isDone = copiedByField(text);
   }
-  if (isDone) {
-    announce(`Copied: ${text}`);
-    sayOn(button, "Copied");
-  } else if (shownIn) {
-    getSelection()?.selectAllChildren(shownIn);
-    announce("Selected; copy it with the keys of your system.");
-    sayOn(button, "Selected");
-  } else {
-    showUncopied(text);
-    sayOn(button, "Not copied");
-  }
+  if (isDone) announce(`Copied: ${text}`);
+  else showUncopied(text);
+  sayOn(button, isDone ? "Copied" : "Not copied");
   return isDone;
 }
 
 /** How the cube in one's hands is set up on each side, from solved: premoves, scramble and moves, each to be copied.
  * @param lines that lead there
  * @param of what is there, as it is said after the names of the buttons */
-export const setUps = (lines: Part, of = "") => SIDES.flatMap((side) => {
-  const shown = element("output", { class: "moves" }, lines[side]);
-  return [
-    element("dt", {}, `Set-up of the ${side} side, from solved`),
-    element("dd", {}, shown, button("Copy", {
-      class: "quiet", "aria-label": `Copy the set-up of the ${side} side${of}`,
-      click: ({ currentTarget }) => copy(lines[side], currentTarget, shown),
-    })),
-  ];
-});
+export const setUps = (lines: Part, of = "") => SIDES.flatMap((side) => [
+  element("dt", {}, `Set-up of the ${side} side, from solved`),
+  element("dd", {}, element("output", { class: "moves" }, lines[side]), button("Copy", {
+    class: "quiet", "aria-label": `Copy the set-up of the ${side} side${of}`,
+    click: ({ currentTarget }) => copy(lines[side], currentTarget),
+  })),
+]);
 
 const LINK_OF_FILE = "This page is a file, so the link leads to it on this computer alone. Whoever else has the file "
   + "can put what stands after the # behind its address.";

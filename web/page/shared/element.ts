@@ -11,6 +11,8 @@ export type PageElement = HTMLElement & {
   selectionStart: number;
   selectionEnd: number;
   showPopover(): void;
+  showModal(): void;
+  close(): void;
   setSelectionRange(from: number, to: number): void;
   max: number;
   open: boolean;

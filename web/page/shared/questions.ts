@@ -118,12 +118,9 @@ const REST = 150;
 type Workers = { calls: Calls; byHand: Calls; list: Calls; finders: Calls[] };
 
 export class Readiness {
-  #workers: Workers;
   #timer = 0;
 
-  constructor(workers: Workers) {
-    this.#workers = workers;
-  }
+  constructor(private readonly workers: Workers) {}
 
   stop() {
     clearTimeout(this.#timer);
@@ -137,7 +134,7 @@ export class Readiness {
   }
 
   #build(reached: string[], isBare: boolean) {
-    const { calls, byHand, list, finders } = this.#workers;
+    const { calls, byHand, list, finders } = this.workers;
     byHand.ready(["eofb"]);
     list.ready(namesOf(openSteps(reached)));
     // those that have looked for the best have their own

@@ -11,12 +11,9 @@ const asItStands = (text: string): PlainLine => ({ line: text, places: Array.fro
 const readBy = (instance: Instance, text: string) => new TextInMemory(instance, new WrittenText(text));
 
 export class Reader {
-  #instance: Instance | null;
 
   /** @param instance null if the page has no engine: then all stays as it stands */
-  constructor(instance: Instance | null) {
-    this.#instance = instance;
-  }
+  constructor(private readonly instance: Instance | null) {}
 
   static async start(module: SentModule) {
     try {
@@ -28,10 +25,10 @@ export class Reader {
   }
 
   plainLine(text: string): PlainLine {
-    return this.#instance === null ? asItStands(text) : readBy(this.#instance, text).plain();
+    return this.instance === null ? asItStands(text) : readBy(this.instance, text).plain();
   }
 
   attempts(text: string): Attempt[] {
-    return this.#instance === null ? [attemptOf(asItStands(text))] : attemptsIn(readBy(this.#instance, text));
+    return this.instance === null ? [attemptOf(asItStands(text))] : attemptsIn(readBy(this.instance, text));
   }
 }

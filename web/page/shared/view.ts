@@ -139,7 +139,7 @@ export function listenToKeys(acts: Record<string, () => void>) {
     // a field has its keys for itself, but for the one that closes its list
     if (isField && (event.key !== "Escape" || !part("solutions").contains(event.target))) return;
     // Escape closes help before it closes anything else
-    if (!Object.hasOwn(acts, event.key) || document.querySelector(":popover-open")) return;
+    if (!Object.hasOwn(acts, event.key) || document.querySelector(":popover-open, dialog[open]")) return;
     event.preventDefault();
     acts[event.key]();
   });

@@ -129,18 +129,17 @@ export function showDoubt(where: HTMLElement, doubt: AttemptDoubt | null, text: 
   where.append(element("p", {}, `In doubt: ${WORDS_OF_DOUBTS[reason](wordAt(text, at))}.`), marked(oneLine(text), at));
 }
 
-/** Shows a fault under its field, or takes the last one away; returns where it is in the text, or null.
+/** Shows a fault under its field, or takes the last one away.
  * @param plain what the engine read
  * @param text what was typed */
 export function showFault(
   where: HTMLElement, field: HTMLElement, plain: PlainLine, fault: Error | null, text: string,
-): number | null {
+) {
   where.hidden = fault === null;
   where.replaceChildren();
   field.setAttribute("aria-invalid", String(fault !== null));
-  if (fault === null) return null;
+  if (fault === null) return;
   where.append(element("p", {}, fault instanceof NissyFault ? sentenceOf(fault, plain.line) : fault.message));
-  const place = fault instanceof NissyFault ? placeOf(fault, plain, text)?.at ?? null : null;
-  if (place !== null) where.append(marked(oneLine(text), place));
-  return place;
+  const place = fault instanceof NissyFault ? placeOf(fault, plain, text) : null;
+  if (place !== null) where.append(marked(oneLine(text), place.at));
 }

@@ -98,14 +98,12 @@ const BACK = "Back";
 
 /** A button that leads to a card, and from there back to where one was, as long as the card is in view. */
 export class WayTo {
-  #button: HTMLElement;
   #words = "";
   #name = "";
   /** How far the page was scrolled, where the button leads back. */
   #scroll: number | null = null;
 
-  constructor(button: HTMLElement, card: HTMLElement, heading: HTMLElement) {
-    this.#button = button;
+  constructor(private readonly button: HTMLElement, card: HTMLElement, heading: HTMLElement) {
     button.addEventListener("click", () => {
       const scroll = this.#scroll;
       this.#setScroll(scroll === null ? scrollY : null);
@@ -119,14 +117,14 @@ export class WayTo {
   /** Says what the button leads to; where that is nothing there is no button. @param name as it is said */
   show(words: string, name: string) {
     [this.#words, this.#name] = [words, name];
-    this.#button.hidden = words === "";
+    this.button.hidden = words === "";
     this.#setScroll(this.#scroll);
   }
 
   #setScroll(scroll: number | null) {
     this.#scroll = scroll;
-    this.#button.textContent = scroll === null ? this.#words : BACK;
-    this.#button.setAttribute("aria-label", scroll === null ? this.#name : BACK);
+    this.button.textContent = scroll === null ? this.#words : BACK;
+    this.button.setAttribute("aria-label", scroll === null ? this.#name : BACK);
   }
 }
 
