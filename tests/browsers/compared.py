@@ -1,10 +1,8 @@
 """Lines that are kept beside each other: the cubes of both sides, how many steps follow on each, the first of the best, and notes."""
 from collections import Counter
 
-from selenium.webdriver.common.keys import Keys
-
 from best import LONGER, address_of
-from browser import Browser
+from browser import Browser, Keys
 from program import program_answers
 from tally import Tally
 from wanted import SIDES, TITLES, Position, is_earlier

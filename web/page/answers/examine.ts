@@ -127,7 +127,7 @@ export function examine(
 export type KeptWalk = Walk & { next: BestRow | null };
 
 /** The best of a reduction that follows a line; where two orientations hold each may lead to it. */
-const bestOf = (nissy: Nissy, scramble: string, parts: Part[], { axis }: OfferedStep) =>
+const bestOfReduction = (nissy: Nissy, scramble: string, parts: Part[], { axis }: OfferedStep) =>
   nissy.best(scramble, { soFar: bracketed(parts), most: Infinity })
     .find(({ dr }) => stepNamed(dr.step).axis === axis) ?? null;
 
@@ -140,7 +140,7 @@ export function walkKept(
     const walk = walkOf(nissy, scramble, parts);
     const last = lastOf(walk.reached);
     const step = isReduced(last) ? undefined : openSteps(last).find(({ name }) => name === next);
-    return { ...walk, next: step ? bestOf(nissy, scramble, parts, step) : null };
+    return { ...walk, next: step ? bestOfReduction(nissy, scramble, parts, step) : null };
   });
 }
 

@@ -51,9 +51,9 @@ export function tellAfter(shown: Element, { next }: Row, after: After) {
   const [first, line] = [inner(shown, ".first"), next === null ? "" : lineOf(next)];
   if (line !== "") first.replaceChildren("then ", ...withCases(line, after.passed));
   shown.querySelectorAll(".number").forEach((each, at) => {
-    const count = after[SIDES[at]];
-    if (count === null) return;
-    inner(each, ".times").textContent = `×${count.toLocaleString("en")}`;
+    const [count, times] = [after[SIDES[at]], inner(each, ".times")];
+    if (count === null || times.textContent !== "") return;
+    times.textContent = `×${count.toLocaleString("en")}`;
     each.setAttribute("aria-label", `${each.getAttribute("aria-label")}, ${counted(count, "solution")}`);
   });
 }

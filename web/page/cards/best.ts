@@ -95,7 +95,7 @@ export class BestContinuations {
     // the cases of reductions belong to one cube
     if (isOfReductions || this.#isOfReductions) part("best-cases").value = "";
     this.#isOfReductions = isOfReductions;
-    this.#filters.use(isOfReductions ? this.#kinds.slice(0, 1) : this.#kinds);
+    this.#filters.kinds = isOfReductions ? this.#kinds.slice(0, 1) : this.#kinds;
     part("best-slack").value = isOfReductions ? this.#longerReductions : String(longer);
     this.#ask(isOfReductions ? null : this.#found.shorter({ ...cube, reached, slack: FURTHEST + 1 }));
   }

@@ -1,5 +1,5 @@
 // What is left of rows: by what is chosen, by the cases that are pressed, by turns that are typed, by the last.
-import { announce, announceLater, counted, element, inner, part, tell, type PageElement } from "../shared/element.js";
+import { announce, announceLater, counted, element, inner, part, tell } from "../shared/element.js";
 import {
   ORIENTATIONS, facesOnAxisOf, farnessOf, namesOf, reducedAfter, sidesOf, stateOf,
 } from "../shared/offered-steps.js";
@@ -105,32 +105,23 @@ export const filtersOfBest = () => [
 
 /** The filters of a card, which says how many of them are on, and if they leave nothing; a button clears them. */
 export class Filters<Row> {
-  #badge: PageElement;
-  #button: PageElement;
-  #none: PageElement;
-
   /** @param name with which the ids begin
    * @param note that says what is left
    * @param changed says whether there are rows that may be left */
-  constructor(name: string, note: HTMLElement, private kinds: Kind<Row>[], changed: () => boolean) {
-    this.#badge = part(`${name}-on`);
-    this.#button = part(`${name}-clear`);
-    this.#none = part(`${name}-none`);
+  constructor(
+    private readonly name: string, note: HTMLElement, public kinds: Kind<Row>[], changed: () => boolean,
+  ) {
     for (const field of this.#fields()) {
       if (!field.matches("input")) field.addEventListener("change", changed);
       // once nothing more is typed it is said what is left
       else field.addEventListener("input", () => changed() && announceLater(note.textContent));
     }
-    this.#button.addEventListener("click", () => {
+    part(`${name}-clear`).addEventListener("click", () => {
       // what is hidden can't keep the focus
-      this.#badge.closest("summary")?.focus({ preventScroll: true });
+      part(`${name}-on`).closest("summary")?.focus({ preventScroll: true });
       this.clear();
       if (changed()) announce(note.textContent);
     });
-  }
-
-  use(kinds: Kind<Row>[]) {
-    this.kinds = kinds;
   }
 
   clear() {
@@ -151,10 +142,10 @@ export class Filters<Row> {
 
   /** Says how many these are. @param isEmpty whether they leave nothing of something */
   show(isEmpty: boolean) {
-    const { count } = this;
-    tell(this.#badge, count === 0 ? "" : `${count} on`);
-    this.#button.hidden = count === 0;
-    this.#none.hidden = count === 0 || !isEmpty;
+    const { count, name } = this;
+    tell(part(`${name}-on`), count === 0 ? "" : `${count} on`);
+    part(`${name}-clear`).hidden = count === 0;
+    part(`${name}-none`).hidden = count === 0 || !isEmpty;
   }
 
   #fields() {

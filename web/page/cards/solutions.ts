@@ -59,7 +59,7 @@ export class SolutionList {
   #ordered: Group[] = [];
   #shown = MOST_SHOWN;
   #filters = new Filters<Entry>("list", part("solutions-note"), [
-    withTurns("filter", (entry) => sidesOfTwins(entry, entry.twins)),
+    withTurns("filter", (entry) => sidesOfTwins(entry, entry.others)),
     ofCases("list-cases", (entry) => this.#namesOf(entry)),
   ], () => this.#filtered());
   #groups = part("solutions-groups");

@@ -23,7 +23,7 @@ export const sidesOfTwins = (part: Part, twins: readonly string[]) => SIDES.flat
 });
 
 /** What twins have in common: the moves, without the direction of their last turns. */
-const keyOf = (solution: BestStep) => SIDES.map((side, at) => {
+const twinKey = (solution: BestStep) => SIDES.map((side, at) => {
   const turns = solution[side].split(" ");
   const ends = (endsOnSides(solution.twins[0] ?? "")[at] ?? "").split(" ").filter(Boolean);
   return turns.map((turn, place) => (place < turns.length - ends.length ? turn : turn.replace("'", ""))).join(" ");
@@ -33,7 +33,7 @@ const keyOf = (solution: BestStep) => SIDES.map((side, at) => {
 export function mergeTwins(solutions: readonly Entry[]): Entry[] {
   const merged = new Map<string, Entry>();
   for (const each of solutions) {
-    const key = keyOf(each);
+    const key = twinKey(each);
     if (!merged.has(key)) merged.set(key, { ...each, others: each.twins });
   }
   return [...merged.values()];
