@@ -21,15 +21,15 @@ function netOf(side: Side, view: View, choice: string) {
 }
 
 /** Such as `8 ×4, 9 ×31`. */
-const wordsOf = (counts: Counts) =>
-  [...counts].map(([length, count]) => `${length} ×${count.toLocaleString("en")}`).join(", ") || "–";
+const wordsOf = (counts: Counts) => [...counts].flatMap(([length, count], at) => [at === 0 ? "" : ", ",
+  element("span", { class: "together" }, `${length} ×${count.toLocaleString("en")}`)]);
 
 function followingOf({ steps, views: { normal: { facts } } }: Compared) {
   if (steps.length === 0) return element("p", { class: "note" }, "No step follows.");
   const head = SIDES.map((side) => element("th", { scope: "col" }, NAMES[side]));
   const rows = steps.map(({ step, counts }) => element("tr", {},
     element("th", { scope: "row" }, stateOf(step), element("small", {}, ` ${caseOfStep(facts, step)}`)),
-    ...SIDES.map((side) => element("td", {}, wordsOf(counts[side])))));
+    ...SIDES.map((side) => element("td", {}, ...wordsOf(counts[side])))));
   return element("table", {},
     element("thead", {}, element("tr", {}, element("td"), ...head)), element("tbody", {}, ...rows));
 }

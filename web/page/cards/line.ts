@@ -178,7 +178,8 @@ export class LineSoFar {
     return element("li", {},
       element("span", { class: "step" }, moves, reaches, lost, element("span", { class: "note" }, count)),
       element("span", { class: "acts" },
-        act("Edit", () => this.#edit(index)), act("Remove", () => this.#replace(index, [], 1))));
+        act("Edit", () => this.#edit(index)), act("Remove", () => this.#replace(index, [], 1)),
+        act("Other side", () => this.#replace(index, [{ normal: each.inverse, inverse: each.normal }], 2))));
   }
 
   /** Puts a field in place of a step. */
