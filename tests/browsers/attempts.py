@@ -124,7 +124,7 @@ def chooses(tally: Tally, browser: Browser) -> None:
             (
                 "act",
                 chip(3),
-                {"#scramble-fault p": ["\u201cq\u201d is no move."], "#scramble-marks mark": ["q"], SHOWN: ["3"]},
+                {"#scramble-fault p": ["\u201cq\u201d is no move."], "#scramble-fault mark": ["q"], SHOWN: ["3"]},
             ),
         )
         # what is mended stays beside the others

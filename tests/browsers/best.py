@@ -20,7 +20,7 @@ ROWS = """return [...document.querySelectorAll('#best-body tr')].map((row) => {
 })"""
 DETAILS = """return [...document.querySelectorAll('#best-body tr')].map((row) => [row.querySelector('.first').textContent,
     ...[...row.querySelectorAll('.times')].map((each) => each.textContent)])"""
-SHOWN_FILTERS = "return ['best-filters', 'best-turns'].map((name) => !document.getElementById(name).hidden)"
+SHOWN_FILTERS = "return !document.getElementById('best-filters').hidden"
 # shows more rows, of which the later ones are found once they are asked for, until there are no more
 MORE = """const more = part('best-more');
     if (part('best').ariaBusy === 'true') return false;
@@ -124,54 +124,20 @@ def filters_orientations(tally: Tally, browser: Browser, rows: list[tuple[str, .
         browser.choose(name, "")
 
 
-def filters_reductions(tally: Tally, browser: Browser, rows: list[tuple[int, str, str]]) -> None:
-    """The best reductions are filtered by their axis, by their side and by turns; those of another cube aren't."""
-    tally.equal("cases aren't filtered by, turns are", browser.script(SHOWN_FILTERS), [False, True])
-    moves = "return [...document.querySelectorAll('#best-body .take')].map((each) => each.textContent)"
-    choices = "return [...document.getElementById(arguments[0]).options].map((each) => each.value).slice(1)"
-    tally.equal("the axes", sorted(browser.script(choices, "best-reduction")), sorted({state for _, _, state in rows}))
-    # the moves of each side
-    plain = [[side.strip() for side in re.split("[()]", line) if side.strip()] for _, line, _ in rows]
-    for state in sorted({state for _, _, state in rows}):
-        browser.choose("best-reduction", state)
-        tally.equal(
-            f"those of {state}",
-            (browser.until(MORE), browser.script(moves)),
-            (True, [row[1] for row in rows if row[2] == state]),
-        )
-    browser.choose("best-reduction", "")
-    for side in ("inverse", "normal", "both sides"):
-        browser.choose("best-reduction-side", side)
-        wanted = [row[1] for row in rows if where(row[1]) == side]
-        tally.equal(f"those on the {side} side", (browser.until(MORE), browser.script(moves)), (True, wanted))
-        tally.holds("are some, and not all", 0 < len(wanted) < len(rows))
-    browser.choose("best-reduction-side", "")
-    first = " ".join(max(plain[0], key=len).split()[:2])
-    browser.script(TYPE.replace("'filter'", "'best-filter'"), "", first)
-    typed = [row[1] for row, sides in zip(rows, plain) if any(f" {first} " in f" {side} " for side in sides)]
-    tally.holds(f"those with {first}", browser.until(MORE))
-    matching = browser.script(moves)
-    tally.holds("are all of them, and twins", set(typed) <= set(matching) and 0 < len(matching) < len(rows))
-    tally.equal("which the note says", browser.text("best-note"), f"{len(matching)} of {len(rows)} rows.")
-    browser.script(TYPE.replace("'filter'", "'best-filter'"), "", "x")
-    tally.equal("no moves", (browser.script(moves), "not moves" in browser.text("best-note")), ([], True))
-    browser.script(TYPE.replace("'filter'", "'best-filter'"), "", "")
-    browser.choose("best-reduction-side", "inverse")
-    forgets_filters(tally, browser, len(rows))
-
-
-def forgets_filters(tally: Tally, browser: Browser, count: int) -> None:
-    """The filters of another cube are gone."""
+def filters_reductions(tally: Tally, browser: Browser, count: int) -> None:
+    """The best reductions are filtered by the case of their trigger alone; a filter of another cube is gone."""
+    tally.equal("axes and sides aren't filtered by", browser.script(SHOWN_FILTERS), False)
+    browser.script("part('best-options').open = true")
+    tally.holds("chips come", browser.until("return all('#best-cases-chips button').length > 1"))
+    browser.click("#best-cases-chips button")
+    left = re.match(rf"([0-9]+) of {count} rows", browser.text("best-note"))
+    tally.holds(f"one leaves some: {browser.text('best-note')}", left and 0 < int(left[1]) < count)
     browser.act("#undo-step")
     browser.wait_best()
-    tally.equal("before an orientation cases are filtered by", browser.script(SHOWN_FILTERS), [True, False])
+    tally.equal("before an orientation they are", browser.script(SHOWN_FILTERS), True)
     browser.script("history.back()")
     browser.until("return document.getElementById('best-table').classList.contains('of-reductions')")
-    browser.walk(
-        tally,
-        "a filter of another cube is gone, so all are there again",
-        ("wait_best", {"best-reduction-side=": "", "best-note": f"{count} rows."}),
-    )
+    browser.walk(tally, "the filter of another cube is gone", ("wait_best", {"best-note": f"{count} rows."}))
 
 
 def after_orientation(tally: Tally, browser: Browser) -> None:
@@ -186,7 +152,7 @@ def after_orientation(tally: Tally, browser: Browser) -> None:
     rows = [(total, moves, state) for total, moves, state in browser.script(cells)]
     tally.equal("its reductions, as the model has them", rows, wanted)
     tally.equal("by all moves", [row[0] for row in rows], sorted(row[0] for row in rows))
-    filters_reductions(tally, browser, rows)
+    filters_reductions(tally, browser, len(rows))
     said = f"{rows[0][2]} is reached: {rows[0][0]} moves. nissy has no step after a DR: go on by hand."
     browser.walk(
         tally,

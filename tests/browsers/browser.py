@@ -182,7 +182,8 @@ class Browser(Tab):
 
     def listed(self) -> list[str]:
         """The solutions that are listed, without their brackets."""
-        return self.script("return all('#solutions-groups .take').map((each) => each.dataset.key)")
+        lines = self.script("return all('#solutions-groups .take').map((each) => each.dataset.key)")
+        return [line.strip("()") for line in lines] if self.value("list-side") == "inverse" else lines
 
     def text(self, name: str) -> str:
         """The text of the part with this id, as it is seen, "" where it is hidden."""

@@ -75,16 +75,12 @@ def shows_fault(tally: Tally, browser: Browser, name: str, text: str, sign: str,
 
 
 def scrambles(tally: Tally, browser: Browser) -> None:
-    """Faults of the scramble's field, in which they are marked too; nothing else can be used meanwhile."""
-    in_field = """const mark = document.querySelector('#scramble-marks mark');
-        return [mark.previousSibling.data.length, [...mark.textContent][0], part('results').inert]"""
+    """Faults of the scramble's field; nothing else can be used meanwhile."""
     browser.open()
     for text, sign, said in LINES:
         browser.fill("scramble", text)
         shows_fault(tally, browser, "scramble", text, sign, said)
-        place = len(text.encode()[: fault_column(text) - 1].decode())
-        wanted = [len(text[:place].encode("utf-16-le")) // 2, text[place], True]
-        tally.equal(f"the place in the field of {text[-30:]!r}", browser.script(in_field), wanted)
+        tally.equal("nothing else can be used", browser.script("return part('results').inert"), True)
     browser.walk(tally, "line ends are blanks", ("fill", "scramble", "R\nU\r\nF", {"scramble-fault": ""}))
     tally.equal("a fault goes away", browser.script("return part('results').inert"), False)
     tally.holds("and the table is there", len(browser.cells()) >= 6)
@@ -142,7 +138,7 @@ def pasted(tally: Tally, browser: Browser) -> None:
         browser.walk(tally, "pasted", ("fill", "scramble", text, looks))
         kept = browser.script("return decodeURIComponent(location.hash)").split("=")[1].replace("_", " ").split()
         tally.equal(f"{text!r}: what is kept in the address", kept, line.replace("'", "-").split())
-    fault = {"#scramble-fault p": [NO_MOVE.format("q'")], "#scramble-marks mark": ["q\u2032"]}
+    fault = {"#scramble-fault p": [NO_MOVE.format("q'")], "#scramble-fault mark": ["q"]}
     browser.walk(tally, "a fault behind what is left out", ("fill", "scramble", "1. R q\u2032", fault))
 
 
@@ -224,24 +220,6 @@ def stale(tally: Tally, browser: Browser) -> None:
         )
     browser.click("#copy-joined")
     tally.holds("what isn't known isn't copied", not browser.look("said").startswith("Copied"))
-
-
-def seeds(tally: Tally, browser: Browser) -> None:
-    """Seeds that are none, and one whose scramble is known."""
-    for seed in ("abc", "x", "-1", "18446744073709551616", "1 2", "1\0"):
-        browser.walk(
-            tally,
-            "a seed",
-            ("submit", "seed", seed, {}),
-            ("comes", "seed-fault", "A seed is a whole number from 0 to 18,446,744,073,709,551,615.", {}),
-        )
-        browser.script("part('seed-fault').hidden = true")
-    browser.walk(
-        tally,
-        "no seed takes a fresh one",
-        ("submit", "seed", "", {}),
-        ("until", "return /^[0-9]+$/.test(part('seed').value)", {"seed-fault": ""}),
-    )
 
 
 def starts(tally: Tally, browser: Browser) -> None:

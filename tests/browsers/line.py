@@ -1,4 +1,5 @@
 """What is done with the line so far: it is copied and read again, edited and played, by keys too, and how it ends."""
+from best import LONGER, address_of
 from browser import HELD, Browser, Keys
 from kept import KEPT_SAID
 from steps import ADDRESS, EXAMPLE
@@ -104,7 +105,7 @@ def keeps_focus(tally: Tally, browser: Browser) -> None:
     press = "const it = all(arguments[0]).at(arguments[1]); it.focus(); it.click()"
     browser.open("#scramble=R_U_F&steps=normal.R~inverse.U~normal.L&kept=normal.R,normal.U,normal.D")
     browser.until(KEPT_SAID)
-    browser.script(press, "#line-list button", 2)
+    browser.script(press, "#line-list button", 3)
     browser.press(Keys.BACKSPACE, "2)", Keys.ENTER)
     browser.walk(
         tally,
@@ -113,14 +114,34 @@ def keeps_focus(tally: Tally, browser: Browser) -> None:
         ("choose", "kept-sort", "kept", {}),
     )
     for selector, place, wanted in (
-        ("#line-list button", 3, "Remove L"),
-        ("#line-list button", 3, "Remove R"),
+        ("#line-list button", 4, "Remove L"),
+        ("#line-list button", 4, "Remove R"),
         *(
             ("#kept-list [data-control^=away]", *each)
             for each in ((1, "Remove: D"), (1, "Remove: R"), (0, "kept-back"))
         ),
     ):
         browser.walk(tally, "one is taken away", ("script", press, selector, place, {"label": wanted}))
+
+
+def other_side(tally: Tally, browser: Browser) -> None:
+    """A step that stands on the wrong side goes to the other one, with what it reaches there; one over both sides has them changed."""
+    switch = "const it = document.querySelectorAll('#line-list li')[arguments[0]].lastChild.lastChild; it.focus(); it.click()"
+    said = "return all('#line-list .reaches').map((each) => each.textContent)"
+    on_inverse = {
+        "bracketed": "(B D R F2 B D)",
+        said: ["EO U/D"],
+        "label": "Other side on the inverse side B D R F2 B D",
+    }
+    browser.walk(
+        tally,
+        "a step",
+        ("go", address_of(LONGER) + "&steps=normal.B_D_R_F2_B_D", {said: [""]}),
+        ("script", switch, 0, on_inverse),
+        ("script", switch, 0, {"bracketed": "B D R F2 B D", said: [""]}),
+        ("go", "#scramble=R_U_F&steps=normal.D~normal.R2.inverse.L", {"bracketed": "D R2 (L)"}),
+        ("script", switch, 1, {"bracketed": "D L (R2)", "steps": 2}),
+    )
 
 
 def by_keys(tally: Tally, browser: Browser) -> None:

@@ -222,7 +222,7 @@ def copies(tally: Tally, browser: Browser) -> None:
         line = browser.text(name)
         browser.click(f"#copy-{name}")
         tally.holds(f"{name} is copied: {browser.look('said')}", browser.until(copied, line))
-        tally.holds("its button says so", browser.text(f"copy-{name}") in ("Copied", "Selected"))
+        tally.holds("its button says so", browser.text(f"copy-{name}") == "Copied")
         tally.holds("for a moment", browser.comes(f"copy-{name}", "Copy"))
 
 

@@ -67,7 +67,7 @@ def of_a_list(tally: Tally, browser: Browser) -> None:
     groups = browser.script(GROUPS)
     tally.equal(
         "each group has one trigger, which its heading says",
-        [{trigger_of(cases[f"({key})"]) for key in keys} for _, keys in groups],
+        [{trigger_of(cases[key]) for key in keys} for _, keys in groups],
         [set(re.findall(r"trigger from (\dc\de): ", heading)) for heading, _ in groups],
     )
     tally.equal("the chips count them", dict(browser.script(CHIPS % "list")), dict(triggers))

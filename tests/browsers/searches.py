@@ -1,4 +1,4 @@
-"""Cases and marks, long lists with a stop in mid-search, what is asked for in haste, and scrambles by a seed."""
+"""Cases and marks, long lists with a stop in mid-search, what is asked for in haste, and random scrambles."""
 import re
 import time
 
@@ -6,25 +6,21 @@ from best import CHOOSE, LONGER, SCRAMBLE, TYPE, address_of
 from browser import Browser
 from program import program_answers
 from tally import Tally
-from wanted import SIDES, Position
+from wanted import SIDES, Position, is_earlier
 
 # every edge is flipped here, so the orientations are as long as any, and there are millions of longer ones
 FLIPPED = "U R2 F B R B2 R U2 L B2 R U' D' R2 F R' L B2 U2 F2"
+# how many solutions a list may have
+MOST_LISTED = 100_000
 STOP = CHOOSE + "part('solutions-stop').click()"
 EXAMPLE = "document.querySelector('[data-example]').click();"
 BLUR = "document.activeElement?.blur()"
 
 
-def drawn(browser: Browser, seed: str) -> str:
-    """The scramble of a seed, by the built program."""
-    return program_answers(browser.program, ["scramble", seed, "1", "25", "1"], [])[0]
-
-
 def cases(tally: Tally, browser: Browser) -> None:
     """Bad edges and cases of a scramble, as solvers counted them, in the table, the list and the best; and filters by case."""
     heads = "return all('#steps-body th').map((each) => each.textContent)"
-    browser.walk(tally, "a seed", ("go", {}), ("submit", "seed", "20261125", {}))
-    browser.settle("return all('#steps-body th').length > 0")
+    browser.go(address_of(program_answers(browser.program, ["scramble", "20261125", "1", "25", "1"], [])[0]))
     tally.equal("bad edges", browser.script(heads), ["EO F/B 4 bad edges", "EO R/L 6 bad edges", "EO U/D 6 bad edges"])
     browser.act('[data-cell="eofb.normal"]')
     listed = dict(
@@ -105,7 +101,9 @@ def long_list(tally: Tally, browser: Browser) -> None:
     browser.script(TYPE + CHOOSE.replace("arguments[0]", "arguments[2]"), "", "", "2")
     browser.wait()
     lines = program_answers(browser.program, ["near", "eoud", "20", "2", f"({LONGER})"], [])
-    count = sum(line.endswith(")") for line in lines)
+    found = [line.split(" (")[0] for line in lines if line.endswith(")")]
+    count = sum(not is_earlier(moves, set(found)) for moves in found)
+    tally.holds(f"some of {len(found)} reach it earlier: {count}", count < len(found))
     tally.equal(
         "a long one is counted whole, and cut",
         (browser.text("solutions-note").split(".")[0], len(browser.listed())),
@@ -114,9 +112,8 @@ def long_list(tally: Tally, browser: Browser) -> None:
     browser.go(address_of(FLIPPED) + "&list=eofb.normal.3")
     said = browser.text("solutions-note")
     fewer = program_answers(browser.program, ["near", "eofb", "20", "2", FLIPPED], [])
-    found = re.match("More than ([0-9,]+) solutions. .*The first 200 are shown", said)
-    is_more = found and int(found[1].replace(",", "")) > sum(line.endswith(")") for line in fewer)
-    tally.holds(f"a list without room for all: {said}", is_more)
+    is_cut = re.match("More than [0-9,]+ solutions. .*The first 200 are shown", said)
+    tally.holds(f"a list without room for all: {said}", is_cut and len(fewer) > MOST_LISTED)
     tally.equal("its beginning", browser.listed(), Position(FLIPPED).rows("eofb", "normal")[:200])
 
 
@@ -144,11 +141,8 @@ def impatient(tally: Tally, browser: Browser) -> None:
     browser.until("return part('scramble').value !== arguments[0]", LONGER)
     time.sleep(1)
     browser.wait()
-    tally.equal(
-        "of many scrambles the one of the seed is shown",
-        browser.value("scramble"),
-        drawn(browser, browser.value("seed")),
-    )
+    shown = Position(browser.value("scramble")).letters("normal")
+    tally.equal("of many scrambles one is shown", browser.letters("normal"), shown)
     add = "const own = part('own'); own.value = 'R'; for (let at = 0; at < 3; at += 1) own.form.requestSubmit();"
     another = """const field = part('scramble');
         field.select();
@@ -168,14 +162,13 @@ def impatient(tally: Tally, browser: Browser) -> None:
 
 
 def random(tally: Tally, browser: Browser) -> None:
-    """Scrambles by a seed, and a random one, which shows its seed."""
-    browser.walk(
-        tally,
-        "a seed",
-        ("go", {}),
-        ("submit", "seed", "42", {}),
-        ("comes", "scramble=", drawn(browser, "42"), {}),
-        ("click", "#random", {}),
-    )
-    browser.settle("return part('scramble').value !== arguments[0]", drawn(browser, "42"))
-    tally.equal("a random one shows its seed", browser.value("scramble"), drawn(browser, browser.value("seed")))
+    """Random scrambles have 25 moves each, and none is the one before."""
+    browser.go("#scramble=R_U_F")
+    drawn = ["R U F"]
+    for _ in range(3):
+        browser.click("#random")
+        browser.settle("return part('scramble').value !== arguments[0]", drawn[-1])
+        drawn.append(browser.value("scramble"))
+        tally.equal("it is said", browser.text("status"), f"Random scramble: {drawn[-1]}")
+    tally.equal("how many moves", [len(each.split()) for each in drawn], [3, 25, 25, 25])
+    tally.equal("all are others", len(set(drawn)), 4)

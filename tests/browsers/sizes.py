@@ -17,7 +17,7 @@ STATES = (
 # that shows its end alone is meant to be cut
 BROKEN = """
     const seen = (node) => node.checkVisibility({ visibilityProperty: true })
-        && !node.closest(".unseen, .skip, pre, [popover], #scramble-marks, option");
+        && !node.closest(".unseen, .skip, pre, [popover], option");
     const nodes = all("body *").filter(seen);
     const said = (node) => `${node.localName}#${node.id}.${node.className?.baseVal ?? node.className}: ${node.textContent.trim().slice(0, 30)}`;
     const far = nodes.filter((node) => {

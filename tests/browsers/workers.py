@@ -42,7 +42,7 @@ SCRIPTS = (
 UNREADABLE = "made.forEach((each) => each.dispatchEvent(new MessageEvent('messageerror')))"
 # a worker that has crashed: its page is told nothing
 CRASH = "window.isPatient = false; made.forEach((each) => each.terminate())"
-NO_WORDS = {"failed": "", "alert": "", "seed-fault": "", "own-fault": ""}
+NO_WORDS = {"failed": "", "alert": "", "own-fault": ""}
 
 
 def opened(browser: Browser, script: str) -> None:

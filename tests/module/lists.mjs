@@ -1,10 +1,9 @@
 // Tries what the page makes of a step's solutions: all moves with each, beside a count of the merged lines; twins, which have the same case; and
 // what is left out, since it was reached before its last move.
 import { Nissy } from "../../build/web/module/nissy.js";
-import { ORIENTATIONS, REDUCTIONS, reductionsAfter } from "../../build/web/page/shared/axes.js";
+import { rowsOfList } from "../../build/web/page/answers/list-rows.js";
 import { positionAfter, totalsWith } from "../../build/web/page/answers/position-after.js";
-import { partOn } from "../../build/web/page/shared/offered-steps.js";
-import { mergeTwins, withoutEarlier } from "../../build/web/page/shared/twins.js";
+import { ORIENTATIONS, REDUCTIONS, partOn, reductionsAfter } from "../../build/web/page/shared/offered-steps.js";
 import { ended, moduleBytes, same } from "./tally.mjs";
 
 const OPPOSITE = { U: "D", D: "U", R: "L", L: "R", F: "B", B: "F" };
@@ -51,19 +50,18 @@ function tryList(scramble, parts, step) {
 
 /** Twins reach the same case, and what is left out was reached before its last move, whichever of two opposite turns comes first. */
 function tryTwins(step, line) {
-  const all = nissy.solve(step, line, { slack: 1 });
-  const left = withoutEarlier(all);
-  const kept = new Set(left.map(({ moves }) => moves));
   const isReached = (turns) => nissy.facts(`${line} ${turns.join(" ")}`).holds.includes(step);
   const isEarlier = ({ moves }) => {
     const turns = moves.split(" ");
     const commutes = turns.length > 1 && AXES.some((axis) => turns.slice(-2).every((turn) => axis.includes(turn[0])));
     return isReached(turns.slice(0, -1)) || (commutes && isReached([...turns.slice(0, -2), ...turns.slice(-1)]));
   };
-  same(`${step} after ${line}: what is left out`, all.filter((each) => each.moves !== "" && isEarlier(each) && kept.has(each.moves)), []);
-  const groups = mergeTwins(left, step);
-  const whole = groups.map(twinsOf);
-  same(`${step} after ${line}: each is in a group`, [whole.flat().sort(), groups.length < left.length], [[...kept].sort(), true]);
+  const every = nissy.solve(step, line, { slack: 1 });
+  const left = every.filter((each) => each.moves === "" || !isEarlier(each)).map(({ moves }) => moves);
+  const { entries, all } = rowsOfList(nissy, { list: { step, side: "normal", slack: 1, isAll: false }, scramble: line, parts: [] });
+  const whole = entries.map(twinsOf);
+  same(`${step} after ${line}: each is in a group`, [whole.flat().sort(), all], [[...left].sort(), left.length]);
+  same(`${step} after ${line}: some are left out, some are twins`, [left.length < every.length, entries.length < all], [true, true]);
   const axes = REDUCTIONS.filter(({ name, needs }) => needs === step || name === step).map(({ axis }) => axis);
   const casesOf = (moves) => axes.map((axis) => nissy.facts(`${line} ${moves}`).case[axis]).join();
   same(`${step} after ${line}: twins have one case`, whole.filter((twins) => new Set(twins.map(casesOf)).size !== 1), []);

@@ -7,14 +7,13 @@ import { bestRequest } from "../module/calls/requests.js";
 import { serveBy, type Port } from "../module/workers/serve.js";
 import { AXES } from "../module/shared/facts.js";
 import { STEPS, type Step } from "../module/shared/steps.js";
-import { casesPassed } from "./answers/cases-passed.js";
+import { compareLines } from "./answers/compare.js";
 import { orientationsOn } from "./answers/orientations.js";
-import { positionAfter } from "./answers/position-after.js";
+import { casesPassed, positionAfter } from "./answers/position-after.js";
 import { readAddressed, readByHand, readWritten } from "./answers/read-lines.js";
 import { rowsOfList } from "./answers/list-rows.js";
 import { afterRow, examine, framesOf, walkKept } from "./answers/examine.js";
-import { bracketed, sizeOfCase, stateOf, stepNamed } from "./shared/offered-steps.js";
-import { sidesOfTwins } from "./shared/twins.js";
+import { bracketed, farnessOf, partOf, stateOf, stepNamed } from "./shared/offered-steps.js";
 import type { BestRow, BestStep } from "../module/shared/ways.js";
 import type { FoundOnAxis, Question, Row } from "./cards/finder.js";
 
@@ -22,11 +21,7 @@ const SCRAMBLE_TURNS = 25;
 const STREAM = 1;
 const ANY_SCRAMBLE = "R' U' F L2 U2 R2 B2 D R2 U' L2 B2 D' F' L D' U2 B' R' D2 F2 U R' U' F";
 
-/** @returns the scramble of a seed, or null if it is none */
-const scrambleOf = (nissy: Nissy, { seed }: { seed: string }) => (/^\d+$/.test(seed) && BigInt(seed) < 2n ** 64n
-  ? nissy.scramble(BigInt(seed), STREAM, SCRAMBLE_TURNS) : null);
-
-const partOf = ({ normal, inverse }: BestStep) => ({ normal, inverse });
+const scrambleOf = (nissy: Nissy, { seed }: { seed: bigint }) => nissy.scramble(seed, STREAM, SCRAMBLE_TURNS);
 
 /** What rows are put in order by, as one number: all moves, those of the first step, the pieces of the case, the
  * step. */
@@ -40,8 +35,7 @@ function rowInWords({ total, eo, dr, case: name }: BestRow): Row {
   const next = eo && { step, part: partOf(dr), length, marks: stateOf(stepNamed(step)), case: name, lengths };
   return {
     total, part: partOf(first), state: stateOf(stepNamed(first.step)), twins: first.twins, passed: [], next,
-    lines: eo ? [] : sidesOfTwins(dr, dr.twins), key: [first.step, first.moves, step].join(" "),
-    rank: rankOf(total, first, sizeOfCase(name).far),
+    key: [first.step, first.moves, step].join(" "), rank: rankOf(total, first, farnessOf(name)),
   };
 }
 
@@ -86,8 +80,8 @@ function warmUp(nissy: Nissy, { axis }: { axis: number }, _: unknown, engine: En
 }
 
 const ANSWERS = {
-  afterRow, bestOfAxis, build, examine, framesOf, orientationsOn, readAddressed, readByHand, readWritten, rowsOfList,
-  scrambleOf, walkKept, warmUp,
+  afterRow, bestOfAxis, build, compareLines, examine, framesOf, orientationsOn, readAddressed, readByHand, readWritten,
+  rowsOfList, scrambleOf, walkKept, warmUp,
 };
 
 export type Answers = typeof ANSWERS;

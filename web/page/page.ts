@@ -12,11 +12,12 @@ import { KeptCandidates } from "./cards/kept.js";
 import { LineSoFar } from "./cards/line.js";
 import { withOthers } from "./state/kept-lines.js";
 import { Seen, WayBack, dropAddress, keepPlace, placeIn } from "./state/history.js";
-import { refreshRows } from "./shared/rows.js";
+import { refreshRows, type StarActs } from "./shared/rows.js";
 import { ScrambleField, type ScrambleChange } from "./cards/scramble.js";
 import { SolutionList } from "./cards/solutions.js";
 import {
-  ORIENTATIONS, bracketed, isReduced, lastSideOf, reductionOf, sideToward, stateOf, stepNamed,
+  ORIENTATIONS, bracketed, isReduced, isReduction, lastSideOf, sidesOf, stateOf, stepNamed, type Part, type Side,
+  type Step,
 } from "./shared/offered-steps.js";
 import { StepTable, cubeWithOffers, type Cube } from "./cards/step-table.js";
 import {
@@ -25,11 +26,8 @@ import {
 import { tellFailed } from "./shared/watch.js";
 import { titleOfPage, unanswered, whyNotListed, whyUnread } from "./shared/words.js";
 import type { Examined, Offer } from "./answers/examine.js";
-import type { Moves as Part, Side } from "../module/shared/sides.js";
-import type { Step } from "../module/shared/steps.js";
 import type { Reader } from "./shared/reader.js";
 import type { Row } from "./cards/finder.js";
-import type { RowActs } from "./cards/best-row.js";
 
 type ChangeOptions = Partial<Keeping> & { focusNext?: Where };
 /** The cube that is shown, with its scramble by its face turns, and as it is copied. */
@@ -56,7 +54,6 @@ export class Page {
   #best: BestContinuations;
   #kept: KeptCandidates;
 
-  /** @param newCalls of which each has a worker of its own */
   constructor(newCalls: () => Calls, reader: Reader) {
     this.#calls = newCalls();
     this.#keptCalls = newCalls();
@@ -70,7 +67,7 @@ export class Page {
       change: (change) => this.#changeLine(change), star: () => this.#starLine(),
     });
     this.#table = new StepTable((step, side) => this.#open(step, side));
-    const stars: Omit<RowActs, "goOn"> = {
+    const stars: StarActs = {
       star: (button, added, next) => this.#kept.star(this.#state, button, [...this.#state.parts, ...added], next),
       isStarred: (added, next) => this.#kept.has([...this.#state.parts, ...added], next),
       isSeen: (added, next) => this.#seen.has(this.#state.scramble, [...this.#state.parts, ...added], next),
@@ -114,7 +111,7 @@ export class Page {
     this.#wayBack.set(placeIn(state));
   }
 
-  /** @param hash of the address, with which the page begins */
+  /** @param hash of the address */
   async begin(hash: string) {
     const turn = ++this.#turn;
     const { state: read, fault } = readAddress(hash);
@@ -155,12 +152,8 @@ export class Page {
   }
 
   /** Takes another state, or parts of it. While an address is still read, what is done on the page that is seen
-   * overtakes it. A list doesn't outlast a change of the steps, since it belongs to the cube before it.
-   * @param how where the focus is to go with the answers, and how the state is kept */
-  #change(
-    change: Partial<State>,
-    { focusNext, isStep = "parts" in change, ...ofScramble }: ChangeOptions = {},
-  ) {
+   * overtakes it. A list doesn't outlast a change of the steps, since it belongs to the cube before it. */
+  #change(change: Partial<State>, { focusNext, isStep = "parts" in change, ...ofScramble }: ChangeOptions = {}) {
     this.#nextFocus.set(focusNext);
     this.#wayBack.set(null);
     if ("parts" in change) keepPlace();
@@ -175,7 +168,13 @@ export class Page {
     this.#table.mark(this.#state.list);
     this.#showList();
     if ("kept" in change) this.#showKept();
-    else this.#line.markKept(this.#kept.has(this.#state.parts, reductionOf(this.#state.list)));
+    else this.#line.markKept(this.#kept.has(this.#state.parts, this.#next));
+  }
+
+  /** The reduction that is gone on to, since its list is open, or "". */
+  get #next() {
+    const { list } = this.#state;
+    return list && isReduction(list.step) ? list.step : "";
   }
 
   async #setScramble(scramble: string, { isNew, fmc, others, ...how }: ScrambleChange) {
@@ -228,8 +227,7 @@ export class Page {
     setBusy("results", false);
   }
 
-  /** @param turn of which the engine's answers are shown as they come
-   * @param asked the first of them */
+  /** Shows the engine's answers as they come. @param asked the first of them */
   async #answer(turn: number, asked: ReturnType<typeof cubeWithOffers>) {
     const { cube, offers } = await asked;
     if (turn !== this.#turn) return;
@@ -297,12 +295,10 @@ export class Page {
     this.#goBack();
   }
 
-  /** Goes back to where one was, once what had the focus there is shown. */
   #goBack() {
     this.#wayBack.go((key) => this.#best.reveal(key) ?? this.#list.reveal(key) ?? this.#table.cell(key));
   }
 
-  /** Shows the open list, if it isn't shown yet; once the cube is known. */
   async #showList() {
     const { list } = this.#state;
     if (list && !this.#cube) return;
@@ -321,14 +317,14 @@ export class Page {
     const { kept, parts } = this.#state;
     this.#kept.show(kept);
     refreshRows(part("choices"));
-    this.#line.markKept(this.#kept.has(parts, reductionOf(this.#state.list)));
+    this.#line.markKept(this.#kept.has(parts, this.#next));
     if (kept.length > 0 && this.#cube) this.#kept.describe(this.#cube.scramble, this.#cube.written);
   }
 
   /** Keeps the line so far, with the reduction that is gone on to, or takes it away. */
   #starLine() {
     const { parts } = this.#state;
-    if (parts.length > 0) this.#kept.star(this.#state, part("keep-line"), parts, reductionOf(this.#state.list));
+    if (parts.length > 0) this.#kept.star(this.#state, part("keep-line"), parts, this.#next);
   }
 
   /** @param side of the list, which is opened, or closed if it is open */
@@ -355,7 +351,6 @@ export class Page {
     return from !== null;
   }
 
-  /** @param key of its row */
   #take(taken: Part[], key: string) {
     this.#seen.add(this.#state, taken, key);
     this.#change({ parts: [...this.#state.parts, ...taken], side: lastSideOf(lastOf(taken)) }, { focusNext: "table" });
@@ -366,11 +361,10 @@ export class Page {
   #goOn({ part: taken, next, key }: Row) {
     if (!next) return this.#take([taken], key);
     this.#seen.add(this.#state, [taken], key, next.step);
-    const list = { step: next.step, side: sideToward(next.part), slack: 0, isAll: false };
+    const list = { step: next.step, side: sidesOf(next.part), slack: 0, isAll: false };
     this.#change({ parts: [...this.#state.parts, taken], side: lastSideOf(next.part), list }, { focusNext: "list" });
   }
 
-  /** @param fault why there is no answer */
   #refuse(fault: unknown) {
     if (fault instanceof Stopped) return;
     setBusy("results", false);

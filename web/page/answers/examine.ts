@@ -2,27 +2,23 @@
 // steps may follow, and what is told of the reductions after a row of the best.
 import { NissyFault, type FaultParts } from "../../module/shared/faults.js";
 import { lastOf } from "../shared/certain.js";
-import { casesPassed } from "./cases-passed.js";
-import { positionAfter, totalsWith, type Position } from "./position-after.js";
+import { casesPassed, positionAfter, totalsWith, type Position } from "./position-after.js";
 import { readScramble, type ReadScramble } from "./read-lines.js";
 import {
-  REDUCTIONS, SIDES, bracketed, isReduced, offeredAmong, openSteps, partOn, sideToward, singleMoves, stateOf,
-  stepNamed,
+  REDUCTIONS, SIDES, bracketed, isOffered, isReduced, openSteps, partOn, singleMoves, stepNamed, type OfferedStep,
+  type Part, type Side, type Step,
 } from "../shared/offered-steps.js";
+import type { BestRow } from "../../module/shared/ways.js";
 import type { Candidate } from "../state/address.js";
 import type { Count } from "../../module/calls/replies.js";
 import type { Facts } from "../../module/shared/facts.js";
-import type { Moves as Part, Side } from "../../module/shared/sides.js";
 import type { Nissy } from "../../module/nissy.js";
-import type { Step } from "../../module/shared/steps.js";
-import type { StepOnAxis } from "../shared/axes.js";
 
-/** What is drawn of a cube, and marked. */
 export type View = { letters: string; facts: Facts };
 /** `total`: the fewest moves in all with a shortest solution, once they are merged, Infinity if there is none;
  * `best`: how many make that. */
 export type Counted = Count & { total: number; best: number };
-export type Offer = { step: StepOnAxis; normal: Counted; inverse: Counted };
+export type Offer = { step: OfferedStep; normal: Counted; inverse: Counted };
 /** What is known of a line after each beginning, from none of its parts to all; `turns`: of each part; `passed`: the
  * case before each move of those that lead from an orientation to a reduction; `now`: the cube then. */
 export type Walk = {
@@ -59,11 +55,10 @@ function passedBy(nissy: Nissy, parts: Part[], positions: Position[], reached: s
   });
 }
 
-/** @param scramble by its face turns */
 function walkOf(nissy: Nissy, scramble: string, parts: Part[]): Walk {
   const positions = positionsOf(nissy, scramble, parts);
   const facts = positions.map(({ lines }) => nissy.facts(lines.normal));
-  const reached = facts.map(({ holds }) => offeredAmong(holds));
+  const reached = facts.map(({ holds }) => holds.filter(isOffered));
   return {
     parts,
     facts,
@@ -75,14 +70,13 @@ function walkOf(nissy: Nissy, scramble: string, parts: Part[]): Walk {
   };
 }
 
-function viewsOf(nissy: Nissy, { lines }: Position): Record<Side, View> {
+export function viewsOf(nissy: Nissy, { lines }: Position): Record<Side, View> {
   const viewOf = (line: string) => ({ letters: nissy.facelets(line), facts: nissy.facts(line) });
   return { normal: viewOf(lines.normal), inverse: viewOf(lines.inverse) };
 }
 
-/** A scramble as it is read, and the cube on both sides after some parts, which `whole` has without brackets. */
+/** `whole`: the line without brackets. */
 export type Examined = { read: ReadScramble; walk: Walk; views: Record<Side, View>; whole: string };
-/** What is at fault in the scramble. */
 export type Unexamined = { unread: FaultParts };
 
 function examined(nissy: Nissy, { text, parts }: { text: string; parts: Part[] }): Examined | Unexamined {
@@ -106,8 +100,7 @@ export function framesOf(
     { move: at === 0 ? "" : bracketed([moves[at - 1]]), views: viewsOf(nissy, position) }));
 }
 
-/** A step with its counts on both sides. */
-function offerOf(nissy: Nissy, step: StepOnAxis, position: Position): Offer {
+function offerOf(nissy: Nissy, step: OfferedStep, position: Position): Offer {
   const [normal, inverse] = SIDES.map((side) => {
     const count = nissy.count(step.name, position.lines[side]);
     if (position.count === 0) return { ...count, total: count.length ?? Infinity, best: count.solutions };
@@ -130,30 +123,13 @@ export function examine(
   tell(openSteps(lastOf(reached)).map((step) => offerOf(nissy, step, now)));
 }
 
-/** `lengths`: on each side; `total`: the fewest moves in all, over both; `first`: the first with that, if it has
- * moves; `side`: where these are. */
-export type Next = {
-  state: string;
-  case: string;
-  lengths: (number | null)[];
-  total: number;
-  side: Side | "both";
-  first: Part | null;
-};
-export type KeptWalk = Walk & { next: Next | null };
+/** `next`: the best of the reduction that it was kept with, null if none of at most 20 moves may follow. */
+export type KeptWalk = Walk & { next: BestRow | null };
 
-/** What is said of a reduction that follows a line. @returns null if there is none of at most 20 moves */
-function nextOf(nissy: Nissy, { scramble, parts }: { scramble: string; parts: Part[] }, step: StepOnAxis): Next | null {
-  const rows = nissy.best(scramble, { soFar: bracketed(parts), most: Infinity });
-  // where two orientations hold each may lead to it
-  const row = rows.find(({ dr }) => stepNamed(dr.step).axis === step.axis);
-  if (row === undefined) return null;
-  const { normal, inverse, lengths, moves } = row.dr;
-  const side = sideToward({ normal, inverse });
-  const first = moves === "" ? null : { normal, inverse };
-  const onSides = SIDES.map((each) => lengths[each]);
-  return { state: stateOf(step), case: row.case, lengths: onSides, total: row.total, side, first };
-}
+/** The best of a reduction that follows a line; where two orientations hold each may lead to it. */
+const bestOfReduction = (nissy: Nissy, scramble: string, parts: Part[], { axis }: OfferedStep) =>
+  nissy.best(scramble, { soFar: bracketed(parts), most: Infinity })
+    .find(({ dr }) => stepNamed(dr.step).axis === axis) ?? null;
 
 /** Walks through the candidates of one scramble, each with the reduction that it was kept with, if that may follow
  * it. */
@@ -164,7 +140,7 @@ export function walkKept(
     const walk = walkOf(nissy, scramble, parts);
     const last = lastOf(walk.reached);
     const step = isReduced(last) ? undefined : openSteps(last).find(({ name }) => name === next);
-    return { ...walk, next: step ? nextOf(nissy, { scramble, parts }, step) : null };
+    return { ...walk, next: step ? bestOfReduction(nissy, scramble, parts, step) : null };
   });
 }
 

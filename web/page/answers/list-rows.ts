@@ -1,50 +1,30 @@
 // The rows of a list, by the engine at hand: a step's solutions on a side, or over both, twins as one, each with the
 // cases after it; after moves the fewest in all first.
-import { stepNamed } from "../shared/axes.js";
-import { casesPassed } from "./cases-passed.js";
-import { lineWith, positionAfter, totalsWith, type Position } from "./position-after.js";
-import { partOn } from "../shared/offered-steps.js";
-import { mergeTwins, mergeTwinsOfBoth, withoutEarlier, type Twins } from "../shared/twins.js";
-import type { Facts } from "../../module/shared/facts.js";
+import { casesPassed, lineWith, positionAfter, totalsWith } from "./position-after.js";
+import { SIDES, bracketed, facesOnAxisOf, stepNamed, type Part, type Step } from "../shared/offered-steps.js";
+import { mergeTwins, type Entry } from "../shared/twins.js";
+import type { BestStep } from "../../module/shared/ways.js";
 import type { List } from "../state/address.js";
-import type { Moves as Part } from "../../module/shared/sides.js";
 import type { Nissy } from "../../module/nissy.js";
-import type { Step } from "../../module/shared/steps.js";
 
-/** A solution, with all moves and cases if these are known, of a reduction those before each move; `twins`: over both
- * sides the last turns of those that it has, whether they share its row or not. */
-export type Entry = Twins & {
-  part: Part; twins?: string[]; total?: number; cases?: Facts["case"]; passed?: string[];
-};
-/** `all`: how many there are, and `left`: without those that reach the step before their last move. */
-export type Rows = { entries: Entry[]; all: number; left: number; whole: boolean };
+/** `all`: how many there are, if they are the `whole`. */
+export type Rows = { entries: Entry[]; all: number; whole: boolean };
 
-/** How many solutions a list may have, on one side and over both, and of how many the cases are asked for. */
-const MOST_LISTED = 1_000_000;
-const MOST_OF_BOTH = 50_000;
+/** How many solutions a list may have, and of how many orientations and reductions the cases are asked for. */
+const MOST_LISTED = 100_000;
 const MOST_WITH_CASES = 50_000;
 const MOST_WITH_PASSED = 5_000;
 
-/** The solutions of a step on a side, or over both, and whether these are all. @param now the cube */
-function solutionsOf(
-  nissy: Nissy, { step, side, slack }: List, now: Position["lines"],
-): { solutions: Entry[]; whole: boolean } {
-  const most = side === "both" ? MOST_OF_BOTH : MOST_LISTED;
-  if (side === "both") {
-    const found = nissy.solve(step, now.normal, { sides: side, slack, most: most + 1 });
-    const solutions = found.slice(0, most).map(({ moves, length, normal, inverse, twins }) => (
-      { moves, length, part: { normal, inverse }, twins, others: [] }));
-    return { solutions, whole: found.length <= most };
-  }
-  const found = nissy.solve(step, now[side], { slack, most: most + 1 });
-  const solutions = found.slice(0, most).map((each) => ({ ...each, part: partOn(side, each.moves), others: [] }));
-  return { solutions, whole: found.length <= most };
+/** Whether moves on a side end with a half turn and a turn of the opposite face, which may change places. */
+function endsIdle(moves: string) {
+  const [one = "", other = ""] = moves.split(" ").slice(-2);
+  return one.endsWith("2") && facesOnAxisOf(one[0]).includes(other[0]);
 }
 
 /** Tells of solutions all moves with each, if moves were made before, and puts those with the fewest first. */
-function withTotals(nissy: Nissy, solutions: Entry[], { parts }: Asked, { made }: Position) {
+function withTotals(nissy: Nissy, solutions: Entry[], { scramble, parts }: Asked): Entry[] {
   if (parts.length === 0 || solutions.length > MOST_WITH_CASES) return solutions;
-  const totals = totalsWith(nissy, made, solutions.map(({ part }) => part));
+  const totals = totalsWith(nissy, positionAfter(nissy, scramble, parts).made, solutions);
   return solutions.map((each, at) => ({ ...each, total: totals[at] }))
     .sort((one, other) => one.total - other.total || one.length - other.length);
 }
@@ -53,28 +33,30 @@ function withTotals(nissy: Nissy, solutions: Entry[], { parts }: Asked, { made }
 function tellCases(nissy: Nissy, name: Step, now: string, entries: Entry[]) {
   const { needs, axis } = stepNamed(name);
   const first = entries.slice(0, needs === null ? MOST_WITH_CASES : MOST_WITH_PASSED);
-  const parts = first.map(({ part }) => part);
   if (needs === null) {
-    const facts = nissy.factsAll(parts.map((part) => lineWith(nissy, now, part)), { faults: "throw" });
+    const facts = nissy.factsAll(first.map((each) => lineWith(nissy, now, each)), { faults: "throw" });
     first.forEach((entry, at) => Object.assign(entry, { cases: facts[at].case }));
   } else {
-    const passed = casesPassed(nissy, axis, now, parts);
+    const passed = casesPassed(nissy, axis, now, first);
     first.forEach((entry, at) => Object.assign(entry, { passed: passed[at] }));
   }
+}
+
+/** The solutions of a step that don't reach it before their last move; `whole`: whether these are all. */
+export function solutionsOf(nissy: Nissy, { step, side, slack }: Omit<List, "isAll">, now: string) {
+  const found: BestStep[] = nissy.solve(step, now, { sides: side, slack, most: MOST_LISTED + 1 });
+  const solutions = found.slice(0, MOST_LISTED).filter((each) => !SIDES.some((own) => endsIdle(each[own])));
+  return { solutions, whole: found.length <= MOST_LISTED };
 }
 
 export type Asked = { list: List; scramble: string; parts: Part[] };
 
 export function rowsOfList(nissy: Nissy, asked: Asked): Rows {
-  const { list } = asked;
-  const position = positionAfter(nissy, asked.scramble, asked.parts);
-  const { lines: now } = position;
-  const isBoth = list.side === "both";
+  const { list, scramble, parts } = asked;
+  const now = nissy.lineAfter(scramble, bracketed(parts));
   const { solutions, whole } = solutionsOf(nissy, list, now);
-  const wanted = list.isAll || isBoth ? solutions : withoutEarlier(solutions);
-  const left = withTotals(nissy, wanted, asked, position);
-  const merged = isBoth ? mergeTwinsOfBoth : mergeTwins;
-  const entries = list.isAll ? left : merged(left, list.step);
-  tellCases(nissy, list.step, now.normal, entries);
-  return { entries, all: solutions.length, left: left.length, whole };
+  const ordered = withTotals(nissy, solutions.map((each) => ({ ...each, others: [] })), asked);
+  const entries = list.isAll ? ordered : mergeTwins(ordered);
+  tellCases(nissy, list.step, now, entries);
+  return { entries, all: solutions.length, whole };
 }

@@ -1,7 +1,9 @@
 // Cubes after a scramble and steps on both sides: as a line on each side, with the clean moves that were made there;
-// and how many moves there are in all with those that follow, since some may merge.
-import { SIDES, bracketed, joined, movesOn } from "../shared/offered-steps.js";
-import type { Moves as Part, Side } from "../../module/shared/sides.js";
+// how many moves there are in all with those that follow, since some may merge; and the cases that reductions pass on
+// their way.
+import { present } from "../shared/certain.js";
+import { SIDES, bracketed, joined, movesOn, singleMoves, type Part, type Side } from "../shared/offered-steps.js";
+import type { Axis } from "../../module/shared/facts.js";
 import type { Nissy } from "../../module/nissy.js";
 
 /** Both on each side; `count`: how many moves were made. */
@@ -24,4 +26,20 @@ export function positionAfter(nissy: Nissy, scramble: string, parts: Part[]): Po
   const [normal, inverse] = SIDES.map((side) => nissy.cleanup(movesOn(parts, side)));
   const [count] = totalsWith(nissy, { normal: "", inverse: "" }, [{ normal, inverse }]);
   return { lines: { normal: line, inverse: nissy.invert(line) }, made: { normal, inverse }, count };
+}
+
+/** The cube before each move of a step, those on the normal side first. @param now the line before it */
+const linesBefore = (nissy: Nissy, now: string, part: Part) => singleMoves([part]).map((_, at, all) => {
+  const made = all.slice(0, at);
+  return lineWith(nissy, now, { normal: movesOn(made, "normal"), inverse: movesOn(made, "inverse") });
+});
+
+/** The case on an axis before each move of some steps, of which one or the other is made. */
+export function casesPassed(nissy: Nissy, axis: Axis, now: string, parts: readonly Part[]): string[][] {
+  const ways = parts.map((part) => linesBefore(nissy, now, part));
+  // many begin alike
+  const lines = [...new Set(ways.flat())];
+  const facts = nissy.factsAll(lines, { faults: "throw" });
+  const cases = new Map(lines.map((line, at) => [line, facts[at].case[axis]]));
+  return ways.map((way) => way.map((line) => present(cases.get(line))));
 }

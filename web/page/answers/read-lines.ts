@@ -3,16 +3,15 @@
 // follows.
 import { NissyFault, type FaultParts } from "../../module/shared/faults.js";
 import { LONGEST_NOTE, MOST_MOVES } from "../state/limits.js";
-import { SIDES, bracketed, joined } from "../shared/offered-steps.js";
+import { SIDES, bracketed, joined, type Part, type Side } from "../shared/offered-steps.js";
 import type { AttemptDoubt } from "../../module/text/attempts.js";
 import type { Candidate } from "../state/address.js";
-import type { Moves as Part, Side } from "../../module/shared/sides.js";
 import type { Nissy } from "../../module/nissy.js";
 import type { PlainLine } from "../../module/text/written.js";
 
 const FACE_TURNS = /^[UDRLFB2' ]*$/;
 
-/** @returns a cleaned line without turns of the whole cube */
+/** A cleaned line without turns of the whole cube. */
 function withoutTurns(cleaned: string) {
   const line = cleaned.replace(/[xyz][2']?/g, "").replace(/ +/g, " ").replace(/\( /g, "(").replace(/ \)/g, ")");
   const count = line.match(/[UDRLFB]/g)?.length ?? 0;
@@ -33,7 +32,6 @@ function runsOf(text: string, side: Side): { side: Side; moves: string }[] {
  * names the faces so. */
 export type ReadScramble = { line: string; isTurned: boolean; written: string };
 
-/** @param text as solvers write it */
 export function readScramble(nissy: Nissy, text: string): ReadScramble {
   const plain = nissy.plainLine(text).line;
   const cleaned = nissy.cleanup(nissy.unniss(plain));
@@ -42,8 +40,7 @@ export function readScramble(nissy: Nissy, text: string): ReadScramble {
   return { line, isTurned, written: isTurned ? line : plain.trim().replace(/ +/g, " ") };
 }
 
-/** Moves by hand as a step, those in brackets on the inverse side; none without moves.
- * @param typed `side` of moves without brackets */
+/** Moves by hand as a step, those in brackets on the inverse side; none without moves. */
 export function readByHand(nissy: Nissy, { text, side }: { text: string; side: Side }): Part[] {
   const line = FACE_TURNS.test(nissy.unniss(text)) ? text : withoutTurns(nissy.cleanup(text));
   const runs = runsOf(line, text.includes("(") ? "normal" : side)
@@ -53,7 +50,6 @@ export function readByHand(nissy: Nissy, { text, side }: { text: string; side: S
   return normal === "" && inverse === "" ? [] : [{ normal, inverse }];
 }
 
-/** A line, and why it isn't read. */
 export type Unread = { line: string; fault: FaultParts };
 
 /** The steps of some lines of text, as solvers write them, up to the first that can't be read. */
@@ -92,7 +88,6 @@ export function readWritten(
   };
 }
 
-/** The steps of an address, each read as moves by hand are. */
 function readSteps(nissy: Nissy, parts: Part[]): Part[] {
   nissy.unniss(bracketed(parts));
   return parts.flatMap((part) => readByHand(nissy, { text: bracketed([part]), side: "normal" }));
@@ -109,7 +104,6 @@ function readAgain(nissy: Nissy, candidate: Candidate): Candidate {
   }
 }
 
-/** The steps and the candidates of an address. */
 export const readAddressed = (nissy: Nissy, { parts, kept }: { parts: Part[]; kept: Candidate[] }) => ({
   parts: readSteps(nissy, parts),
   kept: kept.map((each) => readAgain(nissy, each)).filter((each) => each.parts.length > 0),

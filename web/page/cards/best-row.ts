@@ -2,24 +2,18 @@
 // each side alone and how many of that length there are, and its star.
 import { counted, element, inner, type Attributes } from "../shared/element.js";
 import { triggerOf, withCases } from "../shared/passage.js";
-import { starButton, takeButton } from "../shared/rows.js";
-import { SIDES, bracketed, sidesOf } from "../shared/offered-steps.js";
+import { starButton, takeButton, type StarActs } from "../shared/rows.js";
+import { SIDES, bracketed, sidesOf, type Part, type Side } from "../shared/offered-steps.js";
 import type { After } from "../answers/examine.js";
-import type { Moves as Part, Side } from "../../module/shared/sides.js";
 import type { Next, Row } from "./finder.js";
 
-export type RowActs = {
-  goOn: (row: Row) => void;
-  star: (button: HTMLElement, parts: Part[], next?: string) => void;
-  isStarred: (parts: Part[], next?: string) => boolean;
-  isSeen: (parts: Part[], next?: string) => boolean;
-};
+export type RowActs = StarActs & { goOn: (row: Row) => void };
 
 /** How many signs the style adds to a row that was seen, and how wide a sign of a twin is beside one of the moves. */
 const SEEN_SIGNS = 2;
 const SIGN_OF_TWIN = 0.9;
 
-/** @returns a cell whose role stays where a narrow page lays the row out as a grid */
+/** A cell whose role stays where a narrow page lays the row out as a grid. */
 function cell(name: "td" | "th", attributes: Attributes, ...children: (Node | string)[]) {
   const role = name === "th" ? { role: "rowheader", scope: "row" } : { role: "cell" };
   return element(name, { ...role, ...attributes }, ...children);
@@ -43,7 +37,7 @@ function movesCell(take: HTMLElement, line: string, twins: string[], next: Next 
 
 function lengthCell({ part: reduction, length: best, lengths }: Next, side: Side) {
   const length = lengths[side];
-  const isBest = length !== null && (length === best || sidesOf([reduction]) === side);
+  const isBest = length !== null && (length === best || sidesOf(reduction) === side);
   const words = length === null ? "no DR" : `DR in ${counted(length, "move")}`;
   const about = {
     class: isBest ? "best number" : "number", "data-side": side === "normal" ? "N" : "I", title: `${side} side alone`,
@@ -57,16 +51,15 @@ export function tellAfter(shown: Element, { next }: Row, after: After) {
   const [first, line] = [inner(shown, ".first"), next === null ? "" : lineOf(next)];
   if (line !== "") first.replaceChildren("then ", ...withCases(line, after.passed));
   shown.querySelectorAll(".number").forEach((each, at) => {
-    const count = after[SIDES[at]];
-    if (count === null) return;
-    inner(each, ".times").textContent = `×${count.toLocaleString("en")}`;
+    const [count, times] = [after[SIDES[at]], inner(each, ".times")];
+    if (count === null || times.textContent !== "") return;
+    times.textContent = `×${count.toLocaleString("en")}`;
     each.setAttribute("aria-label", `${each.getAttribute("aria-label")}, ${counted(count, "solution")}`);
   });
 }
 
 const lineOf = ({ part: reduction }: Next) => bracketed([reduction]);
 
-/** @returns the first of the best reductions, as it follows a row */
 function firstOf(next: Next) {
   const moves = lineOf(next);
   const line = moves === "" ? "" : `then ${moves}`;

@@ -4,16 +4,15 @@ import { bestRow, type RowActs } from "./best-row.js";
 import { thrownError, present } from "../shared/certain.js";
 import { ShownCounts } from "./counts.js";
 import { announce, announceLater, counted, part, setBusy, tell } from "../shared/element.js";
-import { Filters, NOT_MOVES, casesOfBest, filtersOfBest, offerCases, offerChoices, offerMoves } from "./filters.js";
+import { Filters, casesOfBest, filtersOfBest, offerCases, offerMoves } from "./filters.js";
 import { KnownSearches, betterThan, findAll, type Progress, type Question, type Row } from "./finder.js";
 import { FURTHEST, FurtherSearch, type Further } from "./further-search.js";
 import { GREATEST_SLACK } from "../state/limits.js";
 import { Measure } from "./measure.js";
 import { addRows, roveWithin, showRows, takeNamed } from "../shared/rows.js";
-import { isReduced, reducedAfter } from "../shared/offered-steps.js";
+import { isReduced, type Part } from "../shared/offered-steps.js";
 import { isNarrow, withoutMoving } from "../shared/view.js";
 import type { Calls } from "../shared/questions.js";
-import type { Moves } from "../../module/shared/sides.js";
 
 const LOOKING_FOR_BEST = "Looking for the best …";
 /** How many rows are shown at first, so that the table below is seen; of reductions more, since it has no rows then. */
@@ -26,22 +25,18 @@ function shownFirst(reached: string[]) {
 }
 
 /** `longer`: by how many moves orientations may be longer, as it was chosen for the scramble. */
-type CubeOfBest = { scramble: string; parts: Moves[]; reached: string[]; longer: number };
+type CubeOfBest = { scramble: string; parts: Part[]; reached: string[]; longer: number };
 
-/** `shown`: once rows are found; `lengthen`: once longer orientations are chosen. */
 type BestActs = RowActs & { shown: () => void; lengthen: (longer: number) => void };
 
 export class BestContinuations {
-  #finders: Calls[];
-  #acts: BestActs;
   #kinds = filtersOfBest();
-  #filters = new Filters("best", part("best-note"), Object.values(this.#kinds), () => this.#filtered());
+  #filters = new Filters("best", part("best-note"), this.#kinds, () => this.#filtered());
   #question: Question | null = null;
   /** What the rows are shown of. */
   #progress: Further | null = null;
   /** Longer ones that were looked at since, if there are some: their rows wait until they are asked for. */
   #newer: Further | null = null;
-  /** By how many moves reductions may be longer. */
   #longerReductions = "0";
   #isAsked = false;
   #isOfReductions = false;
@@ -52,15 +47,12 @@ export class BestContinuations {
   #shown = 0;
   #body = part("best-body");
   #room = part("best-rows");
-  /** Those that are seen. */
   #seen: Row[] = [];
 
   /** @param finders of its own, one an axis
    * @param calls that tell more of rows that are seen */
-  constructor(finders: Calls[], calls: Calls, acts: BestActs) {
-    this.#finders = finders;
+  constructor(private readonly finders: Calls[], calls: Calls, private readonly acts: BestActs) {
     this.#counts = new ShownCounts(calls, this.#body);
-    this.#acts = acts;
     this.#measure = new Measure(() => this.#turnFurther());
     this.#further = new FurtherSearch(finders, this.#measure, {
       turned: () => this.#turned(),
@@ -98,19 +90,14 @@ export class BestContinuations {
   }
 
   #begin({ reached, longer, ...cube }: CubeOfBest) {
-    part("best-unasked").hidden = reached.length > 0;
-    part("best-filters").hidden = reached.length > 0;
-    part("best-turns").hidden = reached.length === 0;
-    // those of reductions belong to one cube
-    const cases = reached.length === 0 && !this.#isOfReductions ? part("best-cases").value : "";
-    this.#isOfReductions = reached.length > 0;
-    this.#filters.use(this.#kinds.ofReductions);
-    this.#filters.clear();
-    part("best-cases").value = cases;
-    offerChoices("best-reduction", reducedAfter(reached));
-    if (reached.length === 0) this.#filters.use(this.#kinds.ofOrientations);
-    part("best-slack").value = reached.length === 0 ? String(longer) : this.#longerReductions;
-    this.#ask(reached.length === 0 ? this.#found.shorter({ ...cube, reached, slack: FURTHEST + 1 }) : null);
+    const isOfReductions = reached.length > 0;
+    for (const name of ["best-unasked", "best-filters"]) part(name).hidden = isOfReductions;
+    // the cases of reductions belong to one cube
+    if (isOfReductions || this.#isOfReductions) part("best-cases").value = "";
+    this.#isOfReductions = isOfReductions;
+    this.#filters.kinds = isOfReductions ? this.#kinds.slice(0, 1) : this.#kinds;
+    part("best-slack").value = isOfReductions ? this.#longerReductions : String(longer);
+    this.#ask(isOfReductions ? null : this.#found.shorter({ ...cube, reached, slack: FURTHEST + 1 }));
   }
 
   /** Shows the card, or hides it, before there are rows: so nothing moves when they come.
@@ -121,9 +108,8 @@ export class BestContinuations {
     part("best-table").classList.toggle("of-reductions", reached.length > 0);
   }
 
-  /** Ends the workers; a later search starts others. */
   end() {
-    for (const finder of this.#finders) finder.end();
+    for (const finder of this.finders) finder.end();
   }
 
   /** Offers the cases of all rows once that is seen, which has them found. */
@@ -144,9 +130,9 @@ export class BestContinuations {
     return this.#progress !== null;
   }
 
-  /** Makes the row seen that has this name, and returns its button, or null. */
+  /** Makes the row seen that has this name. @returns its button, or null */
   reveal(key: string) {
-    const at = (this.#rows(this.#progress) ?? []).findIndex((row) => row.key === key);
+    const at = this.#rows(this.#progress).findIndex((row) => row.key === key);
     // it may be among those that are still to be found
     if (at < 0 && / dr/.test(key)) this.#shown = Math.max(this.#shown, (this.#progress?.rows.length ?? 0) + 1);
     if (at < 0) return null;
@@ -157,10 +143,9 @@ export class BestContinuations {
 
   #stop() {
     this.#further.stop();
-    for (const finder of this.#finders) finder.stop();
+    for (const finder of this.finders) finder.stop();
   }
 
-  /** Stops what is looked for, or goes on with what waits for that. */
   #stopped() {
     if (!this.#isAsked && this.#further.held() !== "") return this.#further.release();
     const isFurther = this.#further.isOn();
@@ -174,11 +159,10 @@ export class BestContinuations {
     if (this.#question === null) return;
     const { value } = part("best-slack");
     if (this.#question.reached.length > 0) this.#longerReductions = value;
-    else this.#acts.lengthen(Number(value));
+    else this.acts.lengthen(Number(value));
     this.#ask();
   }
 
-  /** @param newer longer ones, if they are known */
   #ask(newer: Further | null = null) {
     if (this.#question === null) return;
     this.#stop();
@@ -210,7 +194,6 @@ export class BestContinuations {
     this.#further.begin({ ...present(this.#question), slack: present(this.#waiting() ?? this.#progress).slack });
   }
 
-  /** Shows whether longer ones are looked for, or wait until they are asked for. */
   #turned() {
     this.#working(this.#isAsked);
     if (!this.#isAsked) this.#tellRows();
@@ -223,7 +206,6 @@ export class BestContinuations {
     this.#goFurther();
   }
 
-  /** Takes what was found without being asked for, which waits until it is. */
   #foundFurther(progress: Further) {
     this.#found.keep({ ...present(this.#question), slack: progress.slack }, progress);
     this.#newer = progress;
@@ -233,20 +215,18 @@ export class BestContinuations {
     if (first && first.total < total) announceLater(part("best-new").textContent);
   }
 
-  /** @param fault why no longer ones are looked for, or null if they are found */
   #endedFurther(fault: Error | null) {
     if (fault) this.#brokenOff(fault);
     this.#working(false);
   }
 
-  /** What was found of longer ones than are shown, or null. */
   #waiting() {
     return this.#newer !== null && this.#newer.slack > (this.#progress?.slack ?? 0) ? this.#newer : null;
   }
 
-  /** The rows of these that belong among those that are seen. */
+  /** The rows that wait and belong among those that are seen. */
   #better() {
-    return betterThan(this.#seen, this.#rows(this.#waiting()) ?? [], this.#shown);
+    return betterThan(this.#seen, this.#rows(this.#waiting()), this.#shown);
   }
 
   /** Shows the rows that wait in their places, and goes to the first of them. */
@@ -271,7 +251,7 @@ export class BestContinuations {
     part("best-note").textContent = LOOKING_FOR_BEST;
     try {
       for (const slack of known || wanted === 0 ? [wanted] : [0, wanted]) {
-        const found: Further = { ...await findAll(this.#finders, { ...question, slack, isWhole }, tell), slack };
+        const found: Further = { ...await findAll(this.finders, { ...question, slack, isWhole }, tell), slack };
         if (!isStill()) return;
         this.#found.keep({ ...question, slack }, found);
         this.#progress = found;
@@ -293,8 +273,7 @@ export class BestContinuations {
     if (tried > 0) part("best-note").textContent = `${LOOKING_FOR_BEST} ${counted(tried, "way")} tried.`;
   }
 
-  /** @param done how many axes are looked through
-   * @param all of how many */
+  /** @param done how many of all axes are looked through */
   #tellAxes(done: number, all: number) {
     Object.assign(part("best-progress"), { max: all, value: done });
   }
@@ -307,7 +286,6 @@ export class BestContinuations {
     announce(text);
   }
 
-  /** Shows whether something is looked for, that was asked for or not. */
   #working(isAsked: boolean) {
     this.#isAsked = isAsked;
     const isOn = isAsked || this.#further.isOn();
@@ -324,21 +302,20 @@ export class BestContinuations {
     if (!isAsked && this.#progress) this.#counts.tell(present(this.#question), this.#seen);
   }
 
-  /** @param progress all that was looked for */
   #show(progress: Further) {
     this.#progress = progress;
     this.#working(false);
     this.#draw();
-    this.#acts.shown();
+    this.acts.shown();
   }
 
-  /** The rows that the filters leave, or null if what is typed isn't moves. */
+  /** The rows that the filters leave. */
   #rows(progress: Further | null) {
-    return this.#filters.left(progress?.rows ?? []);
+    return this.#filters.left(progress?.rows ?? []) ?? [];
   }
 
   #draw() {
-    const rows = this.#rows(this.#progress) ?? [];
+    const rows = this.#rows(this.#progress);
     const { isWhole = false, rows: all = [], count = 0, tried = 0 } = this.#progress ?? {};
     this.#filters.show(rows.length === 0 && isWhole && all.length > 0);
     if (part("best-options").open) offerCases("best-cases", all.map(casesOfBest));
@@ -355,16 +332,15 @@ export class BestContinuations {
   /** Says how many rows there are, whether more may be shown, and how many wait among them. */
   #tellRows() {
     if (this.#progress === null) return;
-    const rows = this.#rows(this.#progress);
     // with those that are still to be found
-    const left = this.#filters.count > 0 ? rows?.length ?? 0 : this.#progress.count;
+    const left = this.#filters.count > 0 ? this.#rows(this.#progress).length : this.#progress.count;
     part("best-more").hidden = this.#shown >= left;
     part("best-more").textContent = `Show more of ${left.toLocaleString("en")}`;
     const better = this.#better();
     const kind = better[0]?.rank < (this.#seen.at(-1)?.rank ?? 0) ? "better" : "longer";
     const words = better.length === 0 ? "" : `${counted(better.length, `${kind} row`)}, from ${better[0].total} moves`;
     tell(part("best-new"), words);
-    part("best-note").textContent = rows === null ? NOT_MOVES : this.#note(this.#progress, left, better.length > 0);
+    part("best-note").textContent = this.#note(this.#progress, left, better.length > 0);
   }
 
   /** What is said of the rows that are shown, and of longer ones. @param left how many the filters leave */
@@ -393,7 +369,7 @@ export class BestContinuations {
     this.#seen = rows;
     showRows(this.#body, () => {
       if (stay === 0) this.#body.replaceChildren();
-      addRows(this.#body, rows.slice(stay).map((row) => bestRow(row, this.#acts)));
+      addRows(this.#body, rows.slice(stay).map((row) => bestRow(row, this.acts)));
     }, part("best-heading"));
   }
 }

@@ -1,5 +1,5 @@
-// What is told of the reductions after the rows of the best that are seen: how many of the shortest there are on each
-// side, and which cases the first one passes. It is asked for once a row is seen: thousands never are.
+// What is told of the reductions after the rows of the best that are shown: how many of the shortest there are on each
+// side, and which cases the first one passes. It is asked for row by row: of thousands it never is.
 import { tellAfter } from "./best-row.js";
 import { present } from "../shared/certain.js";
 import { setBusy } from "../shared/element.js";
@@ -9,81 +9,53 @@ import type { After } from "../answers/examine.js";
 import type { Question, Row } from "./finder.js";
 
 export class ShownCounts {
-  #calls: Calls;
-  #body: HTMLElement;
   #question: Question | null = null;
-  /** By the keys of rows; null while it is asked for. */
+  #shown: Row[] = [];
+  /** By the keys of rows; null once it is asked for. */
   #known = new Map<string, After | null>();
-  /** The rows that may come into view, by their elements. */
-  #unseen = new Map<Element, Row>();
-  /** the elements of which was told, or is to be */
-  #told = new WeakSet();
-  #wanted: Row[] = [];
   #isAsking = false;
-  #observer: IntersectionObserver;
 
-  /** @param body of the table */
-  constructor(calls: Calls, body: HTMLElement) {
-    this.#calls = calls;
-    this.#body = body;
-    this.#observer = new IntersectionObserver((entries) => this.#look(entries));
-  }
+  constructor(private readonly calls: Calls, private readonly body: HTMLElement) {}
 
-  /** Forgets what is known, since another cube is shown. */
   clear() {
     this.#known = new Map();
-    this.#wanted = [];
-    this.#observer.disconnect();
-    this.#unseen.clear();
-    setBusy(this.#body.id, false);
+    this.#shown = [];
+    setBusy(this.body.id, false);
   }
 
   /** @param shown the rows of the table, in their order */
   tell(question: Question, shown: Row[]) {
-    this.#question = question;
+    [this.#question, this.#shown] = [question, shown];
     for (const [at, row] of shown.entries()) {
-      const element = this.#body.children[at];
-      if (this.#told.has(element)) continue;
-      this.#told.add(element);
       const after = this.#known.get(row.key);
-      if (after) tellAfter(element, row, after);
-      if (row.next === null || this.#known.has(row.key)) continue;
-      this.#unseen.set(element, row);
-      this.#observer.observe(element);
-      setBusy(this.#body.id, true);
+      if (after) tellAfter(this.body.children[at], row, after);
     }
+    setBusy(this.body.id, this.#isAsking || this.#next() !== undefined);
+    if (!this.#isAsking) this.#askAll();
   }
 
-  /** Asks for the rows that came into view. */
-  #look(entries: IntersectionObserverEntry[]) {
-    const seen = entries.filter(({ isIntersecting, target }) => isIntersecting && this.#unseen.has(target));
-    for (const { target } of seen) {
-      this.#observer.unobserve(target);
-      const row = present(this.#unseen.get(target));
-      this.#unseen.delete(target);
-      this.#known.set(row.key, null);
-      this.#wanted.push(row);
-    }
-    if (!this.#isAsking) this.#askAll();
+  #next() {
+    return this.#shown.find(({ key, next }) => next !== null && !this.#known.has(key));
   }
 
   async #askAll() {
     this.#isAsking = true;
-    for (let row = this.#wanted.shift(); row; row = this.#wanted.shift()) await this.#ask(row);
+    for (let row = this.#next(); row; row = this.#next()) await this.#ask(row);
     this.#isAsking = false;
-    setBusy(this.#body.id, false);
+    setBusy(this.body.id, false);
   }
 
   async #ask(row: Row) {
     const known = this.#known;
+    known.set(row.key, null);
     // what the rows are chosen by is there without it
     const { scramble, parts } = present(this.#question);
     const { step, part: first } = present(row.next);
     const asked = { scramble, parts: [...parts, row.part], step, first };
-    const found = await this.#calls.ask("afterRow", asked).catch(() => null);
+    const found = await this.calls.ask("afterRow", asked).catch(() => null);
     if (known !== this.#known || found === null) return;
     known.set(row.key, found);
-    const shown = takeNamed(this.#body, row.key)?.closest("tr");
+    const shown = takeNamed(this.body, row.key)?.closest("tr");
     if (shown) tellAfter(shown, row, found);
   }
 }

@@ -4,14 +4,12 @@ import { stickersOf } from "../../module/shared/stickers.js";
 import { present } from "../shared/certain.js";
 import { element, part, tell } from "../shared/element.js";
 import { emptyNet, showCube, stickerOf } from "./net.js";
-import { SIDES, axisName, bracketed, newlyReached, singleMoves } from "../shared/offered-steps.js";
+import { SIDES, axisName, bracketed, newlyReached, singleMoves, type Side } from "../shared/offered-steps.js";
 import { withCases } from "../shared/passage.js";
 import { PIECES, whyOf } from "./why.js";
-import type { Side } from "../../module/shared/sides.js";
 import type { View, Walk } from "../answers/examine.js";
 
 const FOLLOW = "follow";
-const PLAIN = "none";
 const BEAT = 700;
 
 /** The places of the pieces that a choice marks, and what they are called; a choice is `EO F/B` or `DR U/D`. */
@@ -22,6 +20,18 @@ function marksOf({ badEdges, badCorners, misplacedEdges, case: cases }: Facts, c
   return { pieces: [...badCorners[axis], ...misplacedEdges[axis]], words: cases[axis] };
 }
 
+/** Shows a cube on a net, with what a choice marks of it. @param reached what the line reached, which hides no colour
+ * @returns what is said of the marks */
+export function showMarked(net: SVGElement, side: Side, { letters, facts }: View, choice: string, reached = choice) {
+  const marks = choice === "" ? null : marksOf(facts, choice);
+  const words = marks === null ? "" : `${choice}: ${marks.words}`;
+  const names = marks === null ? "" : `, ${marks.pieces.join(" ") || "none"}`;
+  const title = `The cube on the ${side} side${words === "" ? "" : `; ${words}${names}`}`;
+  const isReached = marks?.pieces.length === 0 && choice === reached;
+  showCube(net, letters, title, marks === null || isReached ? null : new Set(stickersOf(marks.pieces)));
+  return words === "" ? "" : ` · ${words}`;
+}
+
 /** What each move of a line leads to, as far as it is reached, and last what is reached in the end. */
 function goalsOf(walk: Walk): string[] {
   const reached = walk.parts.map((_, at) => newlyReached(walk, at)[0] ?? "");
@@ -30,8 +40,7 @@ function goalsOf(walk: Walk): string[] {
   return [...walk.parts.flatMap((part, at) => singleMoves([part]).map(() => goalOf(at))), last];
 }
 
-/** A cube on both sides after a move. */
-export type Frame = { move: string; views: Record<Side, View> };
+type Frame = { move: string; views: Record<Side, View> };
 
 export class Nets {
   #nets = { normal: emptyNet(), inverse: emptyNet() };
@@ -77,8 +86,7 @@ export class Nets {
     part("play-on").addEventListener("click", () => this.#step(1));
   }
 
-  /** Shows a cube, and the line that leads to it from the scramble.
-   * @param ask for the cube after each of its moves */
+  /** Shows a cube, and the line that leads to it from the scramble. @param ask for the cube after each move */
   show(views: Record<Side, View>, walk: Walk, ask: () => Promise<Frame[]>) {
     this.stop();
     this.#pointed = "";
@@ -96,7 +104,6 @@ export class Nets {
     this.#draw();
   }
 
-  /** Tells of the piece whose sticker is pressed why it is good or bad. */
   #press(side: Side, sticker: number) {
     if (sticker < 0) return;
     // a centre is no piece of these
@@ -105,16 +112,14 @@ export class Nets {
     this.#tellWhy([side]);
   }
 
-  /** @param sides on which it is told of the piece that is chosen */
   #tellWhy(sides: readonly Side[]) {
     const piece = PIECES[part("piece").selectedIndex - 1];
     const { views, choice } = this.#shown();
-    const why = (side: Side) => whyOf(views[side].letters, piece, choice === PLAIN ? "" : choice);
+    const why = (side: Side) => whyOf(views[side].letters, piece, choice);
     const sentences = sides.map((side) => `${side === "normal" ? "Normal" : "Inverse"}: ${piece && why(side)}`);
     tell(part("why"), piece ? sentences.join(" ") : "");
   }
 
-  /** Shows the nets as large as the window, or as they were. */
   #enlarge(isLarge: boolean) {
     part("cube").classList.toggle("large", isLarge);
     part("cube-large").textContent = isLarge ? "Smaller" : "Larger";
@@ -135,7 +140,6 @@ export class Nets {
     this.#draw();
   }
 
-  /** Ends what is played. */
   stop() {
     clearInterval(this.#timer);
     this.#timer = 0;
@@ -188,28 +192,18 @@ export class Nets {
   #draw() {
     if (this.#views === null) return;
     const { views, choice } = this.#shown();
-    for (const side of SIDES) this.#drawSide(side, views[side], choice);
+    for (const side of SIDES) {
+      part(`marked-${side}`).textContent =
+        showMarked(this.#nets[side], side, views[side], choice, this.#goals[this.#count]);
+    }
     const move = this.#frames?.[this.#frame].move;
     part("played").textContent = `${this.#frame} of ${this.#count}${move ? `: ${move}` : ""}`;
   }
 
-  /** The cube that is seen, and what is marked on it. */
   #shown() {
-    const followed = this.#pointed || this.#open || this.#goals[this.#frame] || PLAIN;
+    const followed = this.#pointed || this.#open || this.#goals[this.#frame];
     const choice = this.#choice.value === FOLLOW ? followed : this.#choice.value;
     const frame = this.#frame === this.#count ? null : this.#frames?.[this.#frame];
     return { views: present(frame?.views ?? this.#views), choice };
-  }
-
-  #drawSide(side: Side, { letters, facts }: View, choice: string) {
-    const marks = choice === PLAIN ? null : marksOf(facts, choice);
-    const words = marks === null ? "" : `${choice}: ${marks.words}`;
-    const names = marks === null ? "" : `, ${marks.pieces.join(" ") || "none"}`;
-    const title = `The cube on the ${side} side${words === "" ? "" : `; ${words}${names}`}`;
-    // what the line reached hides no colour
-    const isReached = marks?.pieces.length === 0 && choice === this.#goals[this.#count];
-    const places = marks === null || isReached ? null : new Set(stickersOf(marks.pieces));
-    showCube(this.#nets[side], letters, title, places);
-    part(`marked-${side}`).textContent = words === "" ? "" : ` · ${words}`;
   }
 }

@@ -16,7 +16,6 @@ type Arrived = { state: State; place: Place | null; written: Sheet["written"] };
  * a draft, which gets no sheet. */
 export type Keeping = { isStep: boolean; isDrawn?: boolean; isDraft?: boolean };
 
-/** @returns a link to what was done with a scramble */
 function chipOf(sheet: Sheet, at: number, isShown: boolean) {
   const { scramble, kept } = stateOfSheet(sheet);
   const about = kept.length === 0 ? "" : `, ${counted(kept.length, "line")} kept`;
@@ -31,7 +30,6 @@ export class DeskStrip {
   #bringBack = () => {};
   #chips = part("desk-chips");
 
-  /** @param begin what is done for a new scramble */
   constructor(begin: () => void) {
     part("desk").addEventListener("click", ({ target }) => {
       if (target instanceof Element && target.closest("a")) this.leave();
@@ -86,14 +84,13 @@ export class DeskStrip {
     this.#desk.leave(placeNow());
   }
 
-  /** @returns what the desk has of a scramble, which takes the place of the one that is shown */
+  /** Shows what the desk has of a scramble. */
   begin(scramble: string): State {
     this.leave();
     const sheet = this.#desk.turnTo(scramble);
     return { ...(sheet ? stateOfSheet(sheet) : emptyState()), scramble };
   }
 
-  /** Lays scrambles beside the others. */
   add(sheets: NewSheet[]) {
     if (sheets.length === 0) return;
     const [before, left] = [this.#desk.sheets.length, this.#desk.add(sheets)];
@@ -122,7 +119,6 @@ export class DeskStrip {
     tell(part("desk-note"), isKept || sheets.length === 0 ? "" : NOT_KEPT);
   }
 
-  /** Takes the scramble that is shown away, and shows the next one. */
   #remove() {
     const at = this.#desk.sheets.findIndex((each) => each === this.#desk.shown);
     this.#bringBack = this.#desk.remove();

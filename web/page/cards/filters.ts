@@ -1,42 +1,29 @@
 // What is left of rows: by what is chosen, by the cases that are pressed, by turns that are typed, by the last.
-import { facesOnAxisOf } from "../shared/axes.js";
-import { announce, announceLater, counted, element, inner, part, tell, type PageElement } from "../shared/element.js";
-import { ORIENTATIONS, namesOf, reducedAfter, sidesOf, sizeOfCase, stateOf } from "../shared/offered-steps.js";
+import { announce, announceLater, counted, element, inner, part, tell } from "../shared/element.js";
+import {
+  ORIENTATIONS, facesOnAxisOf, farnessOf, namesOf, reducedAfter, sidesOf, stateOf,
+} from "../shared/offered-steps.js";
 import { triggerOf } from "../shared/passage.js";
 import type { Row } from "./finder.js";
 
 /** Of a filter: its field, and what says by the value of that whether a row is left; null if it can't be read. */
 export type Kind<Row> = { field: string; test: (value: string) => ((row: Row) => boolean) | null };
 
-/** What is said of a text that isn't moves. */
 export const NOT_MOVES = "The text in the filter is not moves: type face turns such as F B'.";
 
-/** Offers choices, of which the first leaves all; the one that is chosen stays, if it is among them.
- * @param name of the field
- * @param first what the first is called */
-export function offerChoices(name: string, choices: string[], first = "any") {
-  const field = part(name);
-  const chosen = field.value;
-  const option = (value: string) => element("option", { value }, value || first);
-  field.replaceChildren(...["", ...choices].map(option));
-  field.value = choices.includes(chosen) ? chosen : "";
-}
-
-/** Offers numbers of moves, from 0 on. @param name of the field */
+/** Offers numbers of moves, from 0 on. */
 export function offerMoves(name: string, most: number) {
   const counts = Array.from({ length: most + 1 }, (_, count) => count);
   part(name).append(...counts.map((count) => element("option", { value: count }, counted(count, "move"))));
 }
 
-/** What is chosen in a field. */
-export function chosen<Row>(
-  field: string, choices: string[], isLeft: (row: Row, choice: string) => boolean,
-): Kind<Row> {
-  offerChoices(field, choices);
+/** What is chosen in a field. @param choices beside the first one, which leaves all */
+function chosen<Row>(field: string, choices: string[], isLeft: (row: Row, choice: string) => boolean): Kind<Row> {
+  part(field).append(...["", ...choices].map((value) => element("option", { value }, value || "any")));
   return { field, test: (value) => (row) => value === "" || isLeft(row, value) };
 }
 
-/** @returns the cases that are pressed, which a field without a place of its own holds */
+/** The cases that are pressed, which a field without a place of its own holds. */
 const pressedIn = (value: string) => value.split(" ").filter(Boolean);
 
 /** Rows with one of the cases that are pressed. @param field beside which their chips stand */
@@ -55,7 +42,7 @@ export function offerCases(name: string, all: string[][]) {
   const pressed = pressedIn(field.value);
   const counts = new Map(pressed.map((each) => [each, 0]));
   for (const each of all.flatMap((cases) => [...new Set(cases)])) counts.set(each, (counts.get(each) ?? 0) + 1);
-  const names = [...counts.keys()].sort((one, other) => sizeOfCase(one).far - sizeOfCase(other).far);
+  const names = [...counts.keys()].sort((one, other) => farnessOf(one) - farnessOf(other));
   const focused = document.activeElement?.closest(`#${chips.id} button`)?.dataset.case;
   chips.replaceChildren(...names.map((each) => {
     const isPressed = pressed.includes(each);
@@ -81,16 +68,14 @@ function inListOrder(turns: string[]) {
   return ordered;
 }
 
-/** @returns the face turns that are typed, or null where the text isn't moves */
+/** The face turns that are typed, or null if the text isn't moves. */
 function turnsOf(text: string): string[] | null {
   const plain = text.replace(/[\u2019\u2032\u00B4\u0060]/g, "'").toUpperCase();
   if (!/^\s*(?:[UDRLFB](?:2'?|')?\s*)*$/.test(plain)) return null;
   return inListOrder((plain.match(/[UDRLFB][2']*/g) ?? []).map((turn) => turn.replace("2'", "2")));
 }
 
-/** Turns that stand one after another on a side of a row's moves or of one of their twins.
- * @param field in which they are typed
- * @param movesOf the moves of each side and twin */
+/** Turns that stand one after another. @param movesOf the moves on each side of a row and its twins */
 export function withTurns<Row>(field: string, movesOf: (row: Row) => string[]): Kind<Row> {
   const test = (text: string) => {
     const wanted = turnsOf(text);
@@ -104,70 +89,48 @@ export function withTurns<Row>(field: string, movesOf: (row: Row) => string[]): 
 
 /** On which sides a step may have moves. */
 const WHERE = ["normal", "inverse", "both sides"];
-const isOn = ({ part: step }: Row, where: string) => sidesOf([step]) === where;
+const isOn = ({ part: step }: Row, where: string) => sidesOf(step) === where.replace(" sides", "");
 
 /** The case of a row of the best: before the reduction after an orientation, or from which its own trigger goes. */
 export const casesOfBest = ({ next, passed }: Row) =>
   (next === null ? [triggerOf(passed)].filter(Boolean) : [next.case]);
 
-/** The filters of the best: of orientations, with their reduction and its case, and of reductions. */
-export const filtersOfBest = () => ({
-  ofOrientations: [
-    ofCases<Row>("best-cases", casesOfBest),
-    chosen<Row>("best-axis", ORIENTATIONS.map(stateOf), ({ state }, axis) => state === axis),
-    chosen("best-side", WHERE, isOn),
-    chosen<Row>("best-next", reducedAfter(namesOf(ORIENTATIONS)), ({ next }, marks) => next?.marks === marks),
-  ],
-  ofReductions: [
-    ofCases<Row>("best-cases", casesOfBest),
-    chosen<Row>("best-reduction", [], ({ state }, wanted) => state === wanted),
-    chosen("best-reduction-side", WHERE, isOn),
-    withTurns<Row>("best-filter", ({ lines }) => lines),
-  ],
-});
+/** The filters of the best, of which the first is one of reductions too. */
+export const filtersOfBest = () => [
+  ofCases<Row>("best-cases", casesOfBest),
+  chosen<Row>("best-axis", ORIENTATIONS.map(stateOf), ({ state }, axis) => state === axis),
+  chosen("best-side", WHERE, isOn),
+  chosen<Row>("best-next", reducedAfter(namesOf(ORIENTATIONS)), ({ next }, marks) => next?.marks === marks),
+];
 
 /** The filters of a card, which says how many of them are on, and if they leave nothing; a button clears them. */
 export class Filters<Row> {
-  #kinds: Kind<Row>[];
-  #badge: PageElement;
-  #button: PageElement;
-  #none: PageElement;
-
   /** @param name with which the ids begin
    * @param note that says what is left
-   * @param sets of which one is used at a time, first the first
    * @param changed says whether there are rows that may be left */
-  constructor(name: string, note: HTMLElement, sets: Kind<Row>[][], changed: () => boolean) {
-    [this.#kinds] = sets;
-    this.#badge = part(`${name}-on`);
-    this.#button = part(`${name}-clear`);
-    this.#none = part(`${name}-none`);
-    for (const field of sets.flat().map((kind) => part(kind.field))) {
+  constructor(
+    private readonly name: string, note: HTMLElement, public kinds: Kind<Row>[], changed: () => boolean,
+  ) {
+    for (const field of this.#fields()) {
       if (!field.matches("input")) field.addEventListener("change", changed);
       // once nothing more is typed it is said what is left
       else field.addEventListener("input", () => changed() && announceLater(note.textContent));
     }
-    this.#button.addEventListener("click", () => {
+    part(`${name}-clear`).addEventListener("click", () => {
       // what is hidden can't keep the focus
-      this.#badge.closest("summary")?.focus({ preventScroll: true });
+      part(`${name}-on`).closest("summary")?.focus({ preventScroll: true });
       this.clear();
       if (changed()) announce(note.textContent);
     });
   }
 
-  /** Uses other kinds. */
-  use(kinds: Kind<Row>[]) {
-    this.#kinds = kinds;
-  }
-
-  /** Leaves all. */
   clear() {
     for (const field of this.#fields()) field.value = "";
   }
 
   /** What is left of rows, or null if a field can't be read. */
   left(rows: Row[]): Row[] | null {
-    const tests = this.#kinds.map(({ field, test }) => test(part(field).value));
+    const tests = this.kinds.map(({ field, test }) => test(part(field).value));
     const read = tests.flatMap((test) => test ?? []);
     return read.length < tests.length ? null : rows.filter((row) => read.every((test) => test(row)));
   }
@@ -179,13 +142,13 @@ export class Filters<Row> {
 
   /** Says how many these are. @param isEmpty whether they leave nothing of something */
   show(isEmpty: boolean) {
-    const { count } = this;
-    tell(this.#badge, count === 0 ? "" : `${count} on`);
-    this.#button.hidden = count === 0;
-    this.#none.hidden = count === 0 || !isEmpty;
+    const { count, name } = this;
+    tell(part(`${name}-on`), count === 0 ? "" : `${count} on`);
+    part(`${name}-clear`).hidden = count === 0;
+    part(`${name}-none`).hidden = count === 0 || !isEmpty;
   }
 
   #fields() {
-    return this.#kinds.map(({ field }) => part(field));
+    return this.kinds.map(({ field }) => part(field));
   }
 }

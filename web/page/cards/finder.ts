@@ -1,22 +1,20 @@
 // Finds the best ways on, each axis by an engine of its own: what they find is one list, by all moves in all.
 import { lastOf } from "../shared/certain.js";
-import { ORIENTATIONS } from "../shared/offered-steps.js";
+import { ORIENTATIONS, type Part, type Side, type Step } from "../shared/offered-steps.js";
 import type { Calls } from "../shared/questions.js";
-import type { OnSides, Moves as Part } from "../../module/shared/sides.js";
-import type { Step } from "../../module/shared/steps.js";
 
-export type Lengths = OnSides<number | null>;
 /** The reduction after an orientation: its moves, what it reaches, its case, and its least length on each side
  * alone. */
-export type Next = { step: Step; part: Part; length: number; marks: string; case: string; lengths: Lengths };
-/** `twins`: their last turns; `lines`: the moves on each side of all twins; `passed`: of a reduction the case before
- * each move; `key`: what the row is known by; `rank`: what rows are put in order by. */
+export type Next = {
+  step: Step; part: Part; length: number; marks: string; case: string; lengths: Record<Side, number | null>;
+};
+/** `twins`: their last turns; `passed`: of a reduction the case before each move; `key`: what the row is known by;
+ * `rank`: what rows are put in order by. */
 export type Row = {
   total: number;
   part: Part;
   state: string;
   twins: string[];
-  lines: string[];
   passed: string[];
   next: Next | null;
   key: string;
@@ -46,13 +44,11 @@ const mostKept = (slack: number) => (slack === 0 ? 5000 : 200);
 const AT_FIRST = 8;
 const mostOf = ({ slack, reached, isWhole }: Question) => (isWhole || reached.length > 0 ? mostKept(slack) : AT_FIRST);
 
-/** Of how many searches what was found is kept. */
 const MOST_KEPT_SEARCHES = 8;
 
-/** @returns what a search is known by */
 const nameOfSearch = ({ scramble, parts, slack }: Question) => JSON.stringify([scramble, parts, slack]);
 
-/** What was found of the last questions. */
+/** What was found of the last questions, so that an undo shows it at once, longer rows too. */
 export class KnownSearches {
   #found = new Map<string, Found & { slack: number }>();
 
@@ -66,7 +62,6 @@ export class KnownSearches {
     return found.find((each) => each !== undefined) ?? null;
   }
 
-  /** Keeps what was found, in place of what was kept longest. */
   keep(question: Question, found: Found & { slack: number }) {
     this.#found.set(nameOfSearch(question), found);
     if (this.#found.size > MOST_KEPT_SEARCHES) this.#found.delete(this.#found.keys().next().value);
@@ -84,10 +79,7 @@ export function together(each: FoundOnAxis[], question: Question): Found {
   return { rows, tried, isWhole, count: isWhole ? rows.length : Math.min(tried, kept) };
 }
 
-/** Finds the best of one axis.
- * @param finders one an axis
- * @param axis its number
- * @param tell told how many were tried */
+/** Finds the best of one axis. @param tell told how many were tried */
 export function findOnAxis(
   finders: Calls[], axis: number, question: Question, tell: (tried: number) => void,
 ): Promise<FoundOnAxis> {
@@ -98,15 +90,13 @@ export function findOnAxis(
 }
 
 /** The numbers of the axes that are looked at: if some orientations hold, those of these. */
-export function axesOf({ reached }: Question) {
+function axesOf({ reached }: Question) {
   const held = ORIENTATIONS.flatMap(({ name }, at) => (reached.includes(name) ? [at] : []));
   return held.length > 0 ? held : ORIENTATIONS.map((_, at) => at);
 }
 
-/** Finds the best of all axes at once. @param finders one an axis */
-export async function findAll(
-  finders: Calls[], question: Question, tell: (progress: Progress) => void,
-): Promise<Found> {
+/** Finds the best of all axes at once. */
+export async function findAll(finders: Calls[], question: Question, tell: (progress: Progress) => void) {
   const axes = axesOf(question);
   const tried = ORIENTATIONS.map(() => 0);
   let done = 0;

@@ -9,7 +9,6 @@ import { waitsForAnswers } from "../shared/view.js";
 import type { Calls } from "../shared/questions.js";
 import type { Size } from "../answers/orientations.js";
 
-/** By how many moves longer. */
 export type Further = Found & { slack: number };
 /** `sizes`: how many orientations each axis has, once they are counted; `isHeld`: it waits until it is asked for;
  * `found`: of the axes that were looked through; `left`: those that are still to be looked at. */
@@ -27,8 +26,6 @@ export const FURTHEST = 2;
 /** How long nothing is waited for before it begins, in milliseconds. */
 const IDLE_FOR = 600;
 
-const MILLISECONDS = 1000;
-
 /** `turned`: once it goes on, or no more, or waits to be asked; `looked`: how many axes are looked through. */
 type FurtherActs = {
   turned: () => void;
@@ -38,17 +35,12 @@ type FurtherActs = {
 };
 
 export class FurtherSearch {
-  #finders: Calls[];
-  #acts: FurtherActs;
-  #measure: Measure;
   #timer = 0;
   #search: Search | null = null;
 
-  /** @param finders one an axis */
-  constructor(finders: Calls[], measure: Measure, acts: FurtherActs) {
-    this.#finders = finders;
-    this.#measure = measure;
-    this.#acts = acts;
+  constructor(
+    private readonly finders: Calls[], private readonly measure: Measure, private readonly acts: FurtherActs,
+  ) {
     document.addEventListener("visibilitychange", () => (document.hidden ? this.#pause() : this.#wait()));
   }
 
@@ -61,14 +53,13 @@ export class FurtherSearch {
   held() {
     if (!this.#search?.isHeld) return "";
     const { question: { slack }, sizes } = this.#search;
-    return `Up to ${slack} longer: ${this.#measure.words(sizes)}.`;
+    return `Up to ${slack} longer: ${this.measure.words(sizes)}.`;
   }
 
-  /** Goes on with that. */
   release() {
     if (this.#search === null) return;
     this.#search.isHeld = false;
-    this.#acts.turned();
+    this.acts.turned();
     this.#goOn();
   }
 
@@ -87,7 +78,6 @@ export class FurtherSearch {
     this.#wait();
   }
 
-  /** Gives it up; the workers are ended by whoever has them. */
   stop() {
     clearTimeout(this.#timer);
     this.#search = null;
@@ -97,15 +87,15 @@ export class FurtherSearch {
   #pause() {
     clearTimeout(this.#timer);
     if (this.#search === null) return;
-    for (const at of this.#search.running) this.#finders[at].stop();
-    this.#acts.turned();
+    for (const at of this.#search.running) this.finders[at].stop();
+    this.acts.turned();
   }
 
   #wait() {
     clearTimeout(this.#timer);
     if (this.#search === null) return;
     this.#timer = setTimeout(() => this.#goOn(), IDLE_FOR);
-    this.#acts.turned();
+    this.acts.turned();
   }
 
   #goOn() {
@@ -124,7 +114,7 @@ export class FurtherSearch {
     const isStill = () => search === this.#search;
     try {
       const { question } = search;
-      const sizes = await Promise.all(this.#finders.map((finder, axis) =>
+      const sizes = await Promise.all(this.finders.map((finder, axis) =>
         finder.ask("orientationsOn", { axis, question })));
       if (!isStill()) return;
       search.sizes = sizes;
@@ -133,19 +123,18 @@ export class FurtherSearch {
       if (isStill() && !document.hidden) this.#end(thrownError(fault));
       return;
     }
-    search.isHeld = !this.#measure.allows(search.sizes);
-    if (search.isHeld) this.#acts.turned();
+    search.isHeld = !this.measure.allows(search.sizes);
+    if (search.isHeld) this.acts.turned();
     else this.#goOn();
   }
 
-  /** @param at the place of its axis */
   async #look(search: Search, at: number) {
     search.running.add(at);
     const isStill = () => search === this.#search;
     const begin = performance.now();
     try {
-      search.found.set(at, await findOnAxis(this.#finders, at, search.question, () => {}));
-      this.#measure.spend(search.sizes[at], (performance.now() - begin) / MILLISECONDS);
+      search.found.set(at, await findOnAxis(this.finders, at, search.question, () => {}));
+      this.measure.spend(search.sizes[at], (performance.now() - begin) / 1000);
     } catch (fault) {
       if (isStill()) this.#broken(search, at, thrownError(fault));
       return;
@@ -155,8 +144,6 @@ export class FurtherSearch {
     if (isStill()) this.#endOf(search);
   }
 
-  /** @param at the place of an axis
-   * @param fault why it isn't looked through */
   #broken(search: Search, at: number, fault: Error) {
     if (!document.hidden) return this.#end(fault);
     // it was given up until the page is seen again
@@ -165,16 +152,16 @@ export class FurtherSearch {
 
   #end(fault: Error) {
     this.stop();
-    this.#acts.ended(fault);
+    this.acts.ended(fault);
   }
 
   /** Goes on with the next axis, or with one more move, or ends. @param search one of whose axes is looked through */
   #endOf(search: Search) {
-    this.#acts.looked(search.found.size, ORIENTATIONS.length);
+    this.acts.looked(search.found.size, ORIENTATIONS.length);
     if (search.left.length > 0 || search.running.size > 0) return this.#goOn();
     const { question, found } = search;
-    this.#acts.found({ ...together([...found.values()], question), slack: question.slack });
+    this.acts.found({ ...together([...found.values()], question), slack: question.slack });
     this.begin(question);
-    if (this.#search === null) this.#acts.ended(null);
+    if (this.#search === null) this.acts.ended(null);
   }
 }

@@ -4,20 +4,21 @@ import { nameOf, withStar } from "../state/kept-lines.js";
 import { fitsAddress, type Candidate, type List, type State } from "../state/address.js";
 import { lastOf, present } from "../shared/certain.js";
 import { copy, fmcOfAll, setUps } from "../shared/copying.js";
-import { announce, button, counted, element, part, spoken, tell, type PageElement } from "../shared/element.js";
+import {
+  announce, button, counted, element, part, spoken, tell, type Attributes, type PageElement,
+} from "../shared/element.js";
+import { MOST_COMPARED, compare } from "./comparison.js";
 import { LONGEST_NOTE, MOST_CANDIDATES } from "../state/limits.js";
 import { WayTo } from "../state/history.js";
 import {
-  axisName, bracketed, isReduced, newlyReached, reductionsAfter, stateOf, stepNamed,
+  SIDES, axisName, bracketed, isReduced, newlyReached, reductionsAfter, sidesOf, stateOf, stepNamed, type Part,
 } from "../shared/offered-steps.js";
 import { withCases } from "../shared/passage.js";
 import { tellAt, withoutMoving } from "../shared/view.js";
-import { MOST_ARE_KEPT, NO_ROOM, wordsOfFault } from "../shared/words.js";
+import { MOST_ARE_KEPT, NO_ROOM, unanswered, wordsOfFault } from "../shared/words.js";
 import type { Calls } from "../shared/questions.js";
 import type { KeptWalk } from "../answers/examine.js";
-import type { Moves as Part } from "../../module/shared/sides.js";
 
-/** @returns what a candidate is called where it is said */
 const saidOf = ({ parts, next }: Candidate) =>
   spoken(bracketed(parts)) + (next === "" ? "" : `, ${stateOf(stepNamed(next))}`);
 
@@ -27,17 +28,15 @@ function stageOf({ reached, next }: KeptWalk) {
   return next !== null || isReduced(last) ? 2 : Math.min(1, last.length);
 }
 
-/** @returns how many moves a candidate has, with the reduction that it was kept with */
 const totalOf = ({ totals, next }: KeptWalk) => next?.total ?? lastOf(totals);
 
-/** The reduction that a candidate was kept with, as its row says it, and the first:
- * `DR F/B 6c4e: 4 normal, 7 inverse, 9 with the line`.
- * @returns none without one */
+/** The reduction that a candidate was kept with, `DR F/B 6c4e: 4 normal, 7 inverse, 9 with the line`, and the first. */
 function wordsOfNext({ next }: KeptWalk): string[] {
   if (next === null) return [];
-  const [normal, inverse] = next.lengths.map((length) => length ?? "–");
-  const then = next.first === null ? [] : [`then ${bracketed([next.first])}`];
-  return [`${next.state} ${next.case}: ${normal} normal, ${inverse} inverse, ${next.total} with the line`, ...then];
+  const { dr, case: name, total } = next;
+  const [normal, inverse] = SIDES.map((side) => dr.lengths[side] ?? "–");
+  const words = `${stateOf(stepNamed(dr.step))} ${name}: ${normal} normal, ${inverse} inverse, ${total} with the line`;
+  return [words, ...(dr.moves === "" ? [] : [`then ${dr.moves}`])];
 }
 
 /** What follows a line that isn't reduced: the reduction that it was kept with, or the case of each that may follow. */
@@ -62,28 +61,25 @@ function stepOf(parts: Part[], walk: KeptWalk | null) {
     ...cases.map((each) => element("span", { class: "case" }, each)));
 }
 
-/** A candidate with its walk, if that is known, and its place. */
 type Shown = { candidate: Candidate; walk: KeptWalk | null; at: number };
 
 type KeptActs = { goOn: (parts: Part[], list: List | null) => void; change: (kept: Candidate[]) => void };
 
 export class KeptCandidates {
-  #calls: Calls;
-  #acts: KeptActs;
   #candidates: Candidate[] = [];
   #walks: KeptWalk[] = [];
   /** What was kept before some were taken away, as long as nothing else changed. */
   #before: Candidate[] | null = null;
-  /** the field of each candidate's note */
   #notes: PageElement[] = [];
+  /** the scramble as it is copied, and by its face turns */
   #scramble = "";
+  #line = "";
+  /** the names of those that are to be compared */
+  #compared: string[] = [];
   #list = part("kept-list");
   #way = new WayTo(part("bar-kept"), part("kept"), part("kept-heading"));
 
-  /** @param calls of its own */
-  constructor(calls: Calls, acts: KeptActs) {
-    this.#calls = calls;
-    this.#acts = acts;
+  constructor(private readonly calls: Calls, private readonly acts: KeptActs) {
     part("copy-kept").addEventListener("click", (event) => copy(this.#text(), event.currentTarget));
     part("kept-clear").addEventListener("click", () => {
       this.leave([]);
@@ -96,6 +92,8 @@ export class KeptCandidates {
       announce(`${counted(length, "line")} ${length === 1 ? "is" : "are"} kept again.`);
     });
     part("kept-sort").addEventListener("change", () => this.#draw());
+    part("kept-compare").addEventListener("click", () => this.#compare());
+    part("comparison-close").addEventListener("click", () => part("comparison").close());
     // a sheet has the set-ups
     for (const kind of ["beforeprint", "afterprint"]) {
       addEventListener(kind, () => {
@@ -123,27 +121,24 @@ export class KeptCandidates {
     this.#draw();
   }
 
-  /** Keeps a line, or takes it away if it is kept.
-   * @param pressed under which is said why it isn't kept
-   * @param next the reduction that it is kept with */
+  /** Keeps a line, or takes it away if it is kept. @param pressed under which is said why it isn't kept */
   star(state: State, pressed: HTMLElement, parts: Part[], next = "") {
     const kept = withStar(state.kept, parts, next);
     const isKept = kept.length > state.kept.length;
     if (kept.length > MOST_CANDIDATES) return tellAt(pressed, MOST_ARE_KEPT);
     if (!fitsAddress({ ...state, kept })) return tellAt(pressed, NO_ROOM);
-    withoutMoving(part("results"), () => (isKept ? this.#acts.change(kept) : this.leave(kept)));
+    withoutMoving(part("results"), () => (isKept ? this.acts.change(kept) : this.leave(kept)));
     announce(`${spoken(bracketed(parts))}: ${isKept ? "kept" : "no longer kept"}.`);
   }
 
   /** Leaves fewer candidates, which can be undone until something else changes. */
   leave(left: Candidate[]) {
     const before = this.#candidates;
-    this.#acts.change(left);
+    this.acts.change(left);
     this.#offerBack(before);
     announce(`${part("kept-left-words").textContent} A button below the list undoes that.`);
   }
 
-  /** Offers what was kept before, or nothing. */
   #offerBack(before: Candidate[] | null) {
     const isFocused = document.activeElement === part("kept-back");
     this.#before = before;
@@ -158,16 +153,15 @@ export class KeptCandidates {
   }
 
   /** Shows what the engine says of the candidates after a scramble, unless it is shown already.
-   * @param scramble by its face turns
-   * @param written as it is copied */
+   * @param written the scramble as it is copied */
   async describe(scramble: string, written: string) {
     const candidates = this.#candidates;
     if (this.#scramble === written && this.#walks.length === candidates.length) return;
     try {
-      const walks = await this.#calls.ask("walkKept", { scramble, candidates });
+      const walks = await this.calls.ask("walkKept", { scramble, candidates });
       if (candidates !== this.#candidates) return;
       this.#walks = walks;
-      this.#scramble = written;
+      [this.#scramble, this.#line] = [written, scramble];
       this.#draw();
     } catch (fault) {
       if (candidates !== this.#candidates || fault instanceof Stopped) return;
@@ -175,12 +169,10 @@ export class KeptCandidates {
     }
   }
 
-  /** @returns whether a line is kept, by itself or with a reduction */
   has(parts: Part[], next = "") {
     return this.#candidates.some((each) => nameOf(each) === nameOf({ parts, next }));
   }
 
-  /** The candidates with their walks, in the order that is chosen. */
   #sorted(): Shown[] {
     const all = this.#candidates.map((candidate, at) => ({ candidate, walk: this.#walks[at] ?? null, at }));
     const walked = all.flatMap((each) => (each.walk === null ? [] : [{ ...each, walk: each.walk }]));
@@ -202,10 +194,12 @@ export class KeptCandidates {
     const focused = this.#list.contains(activeElement) ? activeElement?.dataset.control : null;
     this.#list.replaceChildren(...this.#sorted().map((each) => this.#item(each)));
     if (focused) this.#control(focused)?.focus({ preventScroll: true });
+    this.#compared = this.#compared.filter((name) => this.#candidates.some((each) => nameOf(each) === name));
+    tell(part("kept-compare"), this.#compared.length < 2 ? "" : `Compare ${this.#compared.length}`);
     tell(part("kept-count"), this.#candidates.length === 0 ? "" : counted(this.#candidates.length, "line"));
   }
 
-  /** @returns what is pressed or typed in, by its name */
+  /** What is pressed or typed in, by its name. */
   #control(name: string) {
     return [...this.#list.querySelectorAll("[data-control]")].find(({ dataset }) => dataset.control === name);
   }
@@ -213,17 +207,15 @@ export class KeptCandidates {
   #item({ candidate, walk, at }: Shown) {
     const { parts, note } = candidate;
     const [name, said] = [nameOf(candidate), saidOf(candidate)];
-    // as long as it isn't known where the best are, over both sides
-    const list: List | null = candidate.next === "" || walk?.next === null ? null
-      : { step: stepNamed(candidate.next).name, side: walk?.next.side ?? "both", slack: 0, isAll: false };
-    const act = (word: string, control: string, click: () => void) =>
-      button(word, { class: "quiet", "data-control": `${control} ${name}`, "aria-label": `${word}: ${said}`, click });
+    const isCompared = this.#compared.includes(name);
+    const act = (word: string, control: string, click: () => void, more: Attributes = {}) => button(word,
+      { class: "quiet", "data-control": `${control} ${name}`, "aria-label": `${word}: ${said}`, click, ...more });
     const field = element("input", {
       class: "note-field", value: note, maxlength: LONGEST_NOTE, placeholder: "Note", autocomplete: "off",
       "data-control": `note ${name}`,
       "aria-label": `Note: ${said}`,
       change: (event) => {
-        this.#acts.change(this.#candidates.with(at, { ...this.#candidates[at], note: event.target.value.trim() }));
+        this.acts.change(this.#candidates.with(at, { ...this.#candidates[at], note: event.target.value.trim() }));
       },
     });
     this.#notes[at] = field;
@@ -233,13 +225,41 @@ export class KeptCandidates {
       stepOf(parts, walk),
       element("span", { class: "row" },
         field,
-        act("Go on", "on", () => this.#acts.goOn(parts, list)),
+        act("Go on", "on", () => this.#goOn(candidate, walk)),
+        act("Compare", "compare", () => this.#choose(name), { "aria-pressed": String(isCompared) }),
         act("Remove", "away", () => this.#remove(at))),
       ...cubes);
   }
 
-  /** Takes a candidate away; the focus, if it was in its row, goes to the next one.
-   * @param at its place among the candidates */
+  /** Goes on from a candidate, with the list of the reduction that it was kept with. */
+  #goOn({ parts, next }: Candidate, walk: KeptWalk | null) {
+    // as long as it isn't known where the best are, over both sides
+    const list: List | null = next === "" || walk?.next === null ? null
+      : { step: stepNamed(next).name, side: walk ? sidesOf(walk.next.dr) : "both", slack: 0, isAll: false };
+    this.acts.goOn(parts, list);
+  }
+
+  /** Has a candidate compared, in place of the first if they are too many, or no more. */
+  #choose(name: string) {
+    const others = this.#compared.filter((each) => each !== name);
+    this.#compared = others.length < this.#compared.length ? others : [...others, name].slice(-MOST_COMPARED);
+    this.#draw();
+  }
+
+  /** Shows those that were chosen beside each other. */
+  async #compare() {
+    const chosen = this.#sorted().filter(({ candidate }) => this.#compared.includes(nameOf(candidate)));
+    const lines = chosen.map(({ candidate }) => candidate.parts);
+    try {
+      const told = await this.calls.ask("compareLines", { scramble: this.#line, lines });
+      compare(chosen.map(({ candidate, walk }) =>
+        ({ ...candidate, goOn: () => this.#goOn(candidate, walk) })), told);
+    } catch (fault) {
+      if (!(fault instanceof Stopped)) tell(part("alert"), unanswered(fault));
+    }
+  }
+
+  /** Takes a candidate away; the focus, if it was in its row, goes to the next one. */
   #remove(at: number) {
     const row = [...this.#list.children].find((each) => each.contains(document.activeElement));
     const next = row?.nextElementSibling ?? row?.previousElementSibling;

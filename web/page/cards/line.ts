@@ -5,22 +5,19 @@ import { thrownError, lastOf } from "../shared/certain.js";
 import { copy, fmcOf, setUps } from "../shared/copying.js";
 import { announce, button, counted, element, inner, part, spoken, tell, type PageElement } from "../shared/element.js";
 import {
-  bracketed, isReduced, lastSideOf, movesOn, newlyReached, otherSide, statesOf, turnsOfStep,
+  bracketed, isReduced, lastSideOf, movesOn, newlyReached, otherSide, statesOf, turnsOfStep, type Part, type Side,
 } from "../shared/offered-steps.js";
 import { withCases } from "../shared/passage.js";
 import { showFault, wordsOfLeftOut } from "../shared/words.js";
 import type { Calls } from "../shared/questions.js";
-import type { Moves as Part, Side } from "../../module/shared/sides.js";
 import type { Reader } from "../shared/reader.js";
 import type { Walk } from "../answers/examine.js";
 
 const LONGEST_PASTED = 65536;
 const UNKNOWN = "…";
 const NO_MOVES = "No moves yet";
-/** What is there only if there are moves. */
 const OF_MOVES = ["line-list", "whole", "set-ups", "undo", "bar-total", "bar-undo", "keep-line"];
 
-/** @returns the parts without their last move */
 function withoutLastMove(parts: Part[]): Part[] {
   const last = lastOf(parts);
   const side = lastSideOf(last);
@@ -28,10 +25,9 @@ function withoutLastMove(parts: Part[]): Part[] {
   return [...parts.slice(0, -1), ...(turnsOfStep(left).length === 0 ? [] : [left])];
 }
 
-/** @returns words in a row: `one`, `one and another`, `one, another and a third` */
+/** Words in a row: `one`, `one and another`, `one, another and a third`. */
 const listed = (words: string[]) => [words.slice(0, -1).join(", "), ...words.slice(-1)].filter(Boolean).join(" and ");
 
-/** @returns what is said of a line that ends, or "" */
 function endOf({ parts, facts, reached, totals }: Walk) {
   const total = counted(lastOf(totals), "move");
   if (parts.length === 0) return "";
@@ -42,13 +38,13 @@ function endOf({ parts, facts, reached, totals }: Walk) {
   return `${listed(states)} ${are} reached: ${total}. nissy has no step after a DR: go on by hand.`;
 }
 
-/** What is known of the steps that two lines begin with in common. @param known of each of `parts` */
+/** What is known of the steps that two lines begin with in common. */
 function keptOf<Known>(known: Known[], parts: Part[], others: Part[]) {
   const end = parts.findIndex((each, at) => bracketed([each]) !== bracketed(others.slice(at, at + 1)));
   return end < 0 ? known : known.slice(0, end);
 }
 
-/** @returns what is to be known of a line without brackets before the cube is solved, or "" */
+/** What is to be known of a line without brackets before the cube is solved. */
 function noteOfJoined({ parts, facts }: Walk) {
   if (lastOf(facts).solved || movesOn(parts, "inverse") === "") return "";
   return "Not finished: the inverse moves stand at the end as premoves, and what follows goes before them.";
@@ -66,13 +62,10 @@ function takeLines(field: PageElement, reader: Reader) {
   });
 }
 
-/** `change` says whether it leads back to a row. */
+/** `change` returns whether it leads back to a row. */
 type LineActs = { change: (change: { parts?: Part[]; side?: Side }) => boolean; star: () => void };
 
 export class LineSoFar {
-  #calls: Calls;
-  #reader: Reader;
-  #acts: LineActs;
   #parts: Part[] = [];
   /** what each step reached as long as nothing took it away */
   #reached: string[][] = [];
@@ -82,10 +75,7 @@ export class LineSoFar {
   #words: Record<"moves" | "reaches" | "lost" | "count", PageElement>[] = [];
   #side: Side = "normal";
 
-  constructor(calls: Calls, reader: Reader, acts: LineActs) {
-    this.#calls = calls;
-    this.#reader = reader;
-    this.#acts = acts;
+  constructor(private readonly calls: Calls, private readonly reader: Reader, private readonly acts: LineActs) {
     part("own-form").addEventListener("submit", (event) => {
       event.preventDefault();
       this.#add();
@@ -97,31 +87,26 @@ export class LineSoFar {
     part("clear").addEventListener("click", () => this.#undo([]));
     part("keep-line").addEventListener("click", () => acts.star());
     for (const name of ["bracketed", "joined", "fmc"]) {
-      const text = part(name);
-      part(`copy-${name}`).addEventListener("click", (event) => copy(text.textContent, event.currentTarget, text));
+      part(`copy-${name}`).addEventListener("click", (event) => copy(part(name).textContent, event.currentTarget));
     }
   }
 
-  /** Shows on which side moves by hand go. */
   turnTo(side: Side) {
     this.#side = side;
     part("side").textContent = `${side} side`;
     part("switch").textContent = `Switch to the ${otherSide(side)} side`;
   }
 
-  /** Shows whether the line is kept. */
   markKept(isKept: boolean) {
     part("keep-line").textContent = isKept ? "★ Kept" : "☆ Keep";
     part("keep-line").setAttribute("aria-pressed", String(isKept));
   }
 
-  /** Has moves by hand go on another side. */
   turn(side: Side) {
-    this.#acts.change({ side });
+    this.acts.change({ side });
     announce(`Moves by hand go on the ${side} side.`);
   }
 
-  /** Takes the last step away, if there is one. */
   undoStep() {
     if (this.#parts.length > 0) this.#undo(this.#parts.slice(0, -1));
   }
@@ -174,7 +159,6 @@ export class LineSoFar {
     return (this.#reached[index] ?? []).filter((state) => !holds.includes(state));
   }
 
-  /** @param texts `note`: on what is joined */
   #showWhole(
     { line, joined, total, note = "", fmc = "" }:
       { line: string; joined: string; total: string; note?: string; fmc?: string },
@@ -194,7 +178,8 @@ export class LineSoFar {
     return element("li", {},
       element("span", { class: "step" }, moves, reaches, lost, element("span", { class: "note" }, count)),
       element("span", { class: "acts" },
-        act("Edit", () => this.#edit(index)), act("Remove", () => this.#replace(index, [], 1))));
+        act("Edit", () => this.#edit(index)), act("Remove", () => this.#replace(index, [], 1)),
+        act("Other side", () => this.#replace(index, [{ normal: each.inverse, inverse: each.normal }], 2))));
   }
 
   /** Puts a field in place of a step. */
@@ -206,7 +191,7 @@ export class LineSoFar {
       class: "moves wide", value: text, spellcheck: "false", autocapitalize: "off", autocomplete: "off",
       maxlength: 4096, "aria-label": `Step ${index + 1}`,
     });
-    takeLines(field, this.#reader);
+    takeLines(field, this.reader);
     const fault = element("div", { class: "fault", hidden: true });
     const leave = () => {
       item.replaceChildren(...shown);
@@ -227,8 +212,7 @@ export class LineSoFar {
   }
 
   /** Puts parts in place of a step: the last is to reach what that one reached. The focus, if it was in its row, goes
-   * to the last row then.
-   * @param focused the place of the button that has it then */
+   * to the last row then. @param focused the place of the button that has it then */
   #replace(index: number, added: Part[], focused: number) {
     const isWithin = part("line-list").children[index].contains(document.activeElement);
     const reached = added.map((_, at) => (at === added.length - 1 ? this.#reached[index] : []));
@@ -241,7 +225,7 @@ export class LineSoFar {
 
   #undo(parts: Part[]) {
     const isOneLess = parts.length === this.#parts.length - 1;
-    const isBack = this.#acts.change(isOneLess ? { parts, side: lastSideOf(lastOf(this.#parts)) } : { parts });
+    const isBack = this.acts.change(isOneLess ? { parts, side: lastSideOf(lastOf(this.#parts)) } : { parts });
     announce(parts.length === 0 ? "The line is empty." : `The line is ${spoken(bracketed(parts))}.`);
     // a field that is typed in would bring the keyboard of a phone up, beside the row
     if (parts.length === 0) part(isBack ? "line-heading" : "own").focus({ preventScroll: true });
@@ -252,18 +236,18 @@ export class LineSoFar {
     const field = part("own");
     this.#read(field, part("own-fault"), this.#side, (added) => {
       field.value = "";
-      if (added.length > 0) this.#acts.change({ parts: [...parts, ...added] });
+      if (added.length > 0) this.acts.change({ parts: [...parts, ...added] });
     });
   }
 
-  /** Reads what a field has as steps. @param where for a fault */
+  /** Reads what a field has as steps. */
   async #read(field: PageElement, where: HTMLElement, side: Side, use: (added: Part[]) => void) {
     const [text, parts] = [field.value, this.#parts];
     // what was sent twice, or changed since, isn't added; nor is it to another line
     const isStill = () => field.value === text && this.#parts === parts && field.isConnected;
-    const plain = this.#reader.plainLine(text);
+    const plain = this.reader.plainLine(text);
     try {
-      const added = await this.#calls.ask("readByHand", { text: plain.line, side });
+      const added = await this.calls.ask("readByHand", { text: plain.line, side });
       if (!isStill()) return;
       showFault(where, field, plain, null, text);
       use(added);

@@ -18,13 +18,11 @@ const IN_SECOND = 100_000;
 /** How many seconds the orientations of an axis take, as long as nothing is measured. */
 const expectedOf = ({ count }: Size) => Math.min(count, FIRST) / FIRST_IN_SECOND + count / IN_SECOND;
 
-/** How many processors there are, as far as the browser says. */
 const processors = () => navigator.hardwareConcurrency || 2;
 
 /** How many of them what nobody asked for may take. */
 export const mostTogether = () => Math.max(1, processors() >> 1);
 
-/** Whether its battery or its processor is small. */
 const isSmall = () => matchMedia("(pointer: coarse)").matches || processors() <= 2;
 
 /** Seconds in words that promise no more than is known. */
@@ -41,7 +39,6 @@ export class Measure {
   #spent = 0;
   #field = part("best-further");
 
-  /** @param changed says that something else is chosen */
   constructor(changed: () => void) {
     const kept = stored(CHOSEN);
     this.#field.value = CHOICES.includes(kept) ? kept : isSmall() ? "none" : "some";
@@ -51,25 +48,23 @@ export class Measure {
     });
   }
 
-  /** Begins with another scramble. */
   begin() {
     this.#spent = 0;
   }
 
-  /** Takes down what an axis took. @param seconds of a processor */
+  /** Takes down what an axis took of a processor. */
   spend(size: Size, seconds: number) {
     this.#expected += expectedOf(size);
     this.#taken += seconds;
     this.#spent += seconds;
   }
 
-  /** Whether orientations may be looked at without being asked for. @param sizes of each axis */
+  /** Whether orientations may be looked at without being asked for. */
   allows(sizes: Size[]) {
     const { value } = this.#field;
     return value === "all" || (value === "some" && this.#spent + this.#secondsOf(sizes) <= MOST_SECONDS);
   }
 
-  /** How many they are, and how long they take. */
   words(sizes: Size[]) {
     const count = sizes.reduce((sum, size) => sum + size.count, 0);
     const time = timeInWords(this.#secondsOf(sizes) / Math.min(sizes.length, mostTogether()));

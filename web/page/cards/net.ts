@@ -15,7 +15,6 @@ function shape(name: string, attributes: Record<string, string | number>) {
   return made;
 }
 
-/** How far a row or column of the net is from its first one, with a gap between faces. */
 const distanceOf = (number: number) => number * PITCH + Math.floor(number / 3) * GAP;
 
 function stickerAt({ row, column }: NetPlace) {
@@ -35,11 +34,10 @@ export function emptyNet() {
   return net;
 }
 
-/** Which of the stickers of a net an element is in, by their order; -1 if none. */
+/** In which of a net's stickers an element is; -1 if in none. */
 export const stickerOf = (net: SVGElement, target: Element) =>
   [...net.querySelectorAll(".sticker")].findIndex((sticker) => sticker === target.closest(".sticker"));
 
-/** @returns the letters in words: each face with its three rows */
 function inWords(letters: string) {
   return [...FACES].map((name, face) => {
     const rows = [0, 3, 6].map((row) => [...letters.slice(9 * face + row, 9 * face + row + 3)].join(" "));

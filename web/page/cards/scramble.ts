@@ -1,13 +1,12 @@
 // The card of the scramble: its field, with what was left out of a text and what is at fault, examples, random
-// scrambles from a seed, and the fold of it if the page is narrow.
+// scrambles, and the fold of it if the page is narrow.
 import { Stopped } from "../../module/shared/faults.js";
-import { thrownError } from "../shared/certain.js";
 import { announce, announceLater, counted, element, part, tell } from "../shared/element.js";
 import { emptyState } from "../state/address.js";
 import { sheetsIn, type NewSheet } from "../state/desk.js";
 import { LONGEST_SCRAMBLE } from "../state/limits.js";
 import { areBeside, withoutMoving } from "../shared/view.js";
-import { showDoubt, showFault, wordsOfLeftOut } from "../shared/words.js";
+import { showDoubt, showFault, unanswered, wordsOfLeftOut } from "../shared/words.js";
 import type { Attempt, AttemptDoubt } from "../../module/text/attempts.js";
 import type { Keeping } from "./desk-strip.js";
 import type { Calls } from "../shared/questions.js";
@@ -18,37 +17,25 @@ import type { Reader } from "../shared/reader.js";
  * was deleted; `fmc`: where its steps stand, if it has any; `others`: scrambles that came with it. */
 export type ScrambleChange = Keeping & { isNew: boolean; fmc: Written | null; others: NewSheet[] };
 
-/** What is done with a scramble that is read, and with scrambles of another page. */
 type ScrambleActs = { change: (scramble: string, change: ScrambleChange) => void; take: (sheets: NewSheet[]) => void };
 
 const PAUSE = 150;
-const SEEDS = "A seed is a whole number from 0 to 18,446,744,073,709,551,615.";
 const TURNS_LEFT_OUT = "the turns of the whole cube are left out, so U stays the face that was U.";
 
-/** A seed that nobody chose. */
-const freshSeed = () => String(crypto.getRandomValues(new Uint32Array(1))[0]);
-
-/** @returns it with the apostrophe that one types */
+/** With the apostrophe that one types. */
 const asTyped = ({ line }: { line: string }): string => line.replace(/\u2019/g, "'");
 
-/** @returns it with single blanks, by which two scrambles are compared */
+/** With single blanks, by which two scrambles are compared. */
 const spaced = (plain: { line: string }) => asTyped(plain).trim().replace(/ +/g, " ");
 
-/** @param written where it stands */
 const newSheet = ({ scramble, steps, candidates }: Attempt, written: Written): NewSheet => ({
   state: { ...emptyState(), scramble: spaced(scramble) },
   written: steps.length + candidates.length > 0 ? written : null,
 });
 
 export class ScrambleField {
-  #calls: Calls;
-  #reader: Reader;
-  #acts: ScrambleActs;
   #field = part("scramble");
-  #backdrop = part("scramble-marks");
-  #seed = part("seed");
   #timer = 0;
-  #draws = 0;
   #leftOut: string[] = [];
   #isRead = false;
   /** the scramble that was read last, and whether what is pasted, or typed, takes the place of all of it */
@@ -65,10 +52,7 @@ export class ScrambleField {
   #shown = "";
   #doubt: AttemptDoubt | null = null;
 
-  constructor(calls: Calls, reader: Reader, acts: ScrambleActs) {
-    this.#calls = calls;
-    this.#reader = reader;
-    this.#acts = acts;
+  constructor(private readonly calls: Calls, private readonly reader: Reader, private readonly acts: ScrambleActs) {
     this.#field.maxLength = LONGEST_SCRAMBLE;
     this.#field.addEventListener("input", (event) => this.#typed(event instanceof InputEvent ? event.inputType : ""));
     this.#field.addEventListener("paste", (event) => {
@@ -77,7 +61,7 @@ export class ScrambleField {
       const sheets = sheetsIn(pasted);
       if (sheets.length > 0) {
         event.preventDefault();
-        return this.#acts.take(sheets);
+        return this.acts.take(sheets);
       }
       this.#isReplaced = selectionStart === 0 && selectionEnd === value.length;
       // the browser takes as much of it as the field has room for, without a word
@@ -88,14 +72,7 @@ export class ScrambleField {
       const isAll = value.trim() !== "" && selectionStart === 0 && selectionEnd === value.length;
       if (isAll && inputType.startsWith("insert") && inputType !== "insertFromPaste") this.#isEmptied = true;
     });
-    this.#field.addEventListener("scroll", () => {
-      this.#backdrop.scrollTop = this.#field.scrollTop;
-    });
-    part("random").addEventListener("click", () => this.#draw(freshSeed()));
-    part("seed-form").addEventListener("submit", (event) => {
-      event.preventDefault();
-      this.#draw(this.#seed.value.trim() || freshSeed());
-    });
+    part("random").addEventListener("click", () => this.#draw());
     for (const example of document.querySelectorAll("[data-example]")) {
       example.addEventListener("click", () => this.#put(example.dataset.example ?? ""));
     }
@@ -105,16 +82,15 @@ export class ScrambleField {
     addEventListener("keyup", () => this.#leave(document.activeElement));
   }
 
-  /** Puts the focus on the field, also where the card is folded. */
   focus() {
     this.#fold(false);
     this.#field.focus();
   }
 
-  /** Shows a scramble that did not come from the field. */
+  /** Shows a scramble that didn't come from the field. */
   show(scramble: string) {
     clearTimeout(this.#timer);
-    if (asTyped(this.#reader.plainLine(this.#field.value)) !== scramble) {
+    if (asTyped(this.reader.plainLine(this.#field.value)) !== scramble) {
       this.#field.value = scramble;
       this.#leftOut = [];
     }
@@ -127,8 +103,8 @@ export class ScrambleField {
   /** Shows what is wrong with the scramble, or that nothing is; and how it is read, where anything is left out. */
   judge(fault: Error | null, read: ReadScramble | null) {
     const text = this.#field.value;
-    const plain = this.#reader.plainLine(text);
-    this.#markPlace(text, showFault(part("scramble-fault"), this.#field, plain, fault, text));
+    const plain = this.reader.plainLine(text);
+    showFault(part("scramble-fault"), this.#field, plain, fault, text);
     if (!fault && part("scramble-doubt").hidden) this.tellDoubt(this.#doubt);
     // of what is typed not after each sign
     if (fault) announceLater(part("scramble-fault").children[0].textContent);
@@ -170,18 +146,8 @@ export class ScrambleField {
     if (isFolded && !areBeside() && isWithin) part("scramble-edit").focus({ preventScroll: true });
   }
 
-  /** Marks a place in the field, by a text behind it. */
-  #markPlace(text: string, place: number | null) {
-    if (place === null) return this.#backdrop.replaceChildren();
-    const sign = String.fromCodePoint(text.codePointAt(place) ?? 32);
-    const word = /^[^\s()]+/.exec(text.slice(place))?.[0] ?? sign;
-    this.#backdrop.replaceChildren(text.slice(0, place), element("mark", {}, word), text.slice(place + word.length));
-    this.#backdrop.scrollTop = this.#field.scrollTop;
-  }
-
   #typed(how: string) {
     clearTimeout(this.#timer);
-    this.#markPlace("", null);
     const isReplaced = this.#isReplaced;
     this.#isReplaced = false;
     // what is pasted is whole
@@ -190,13 +156,12 @@ export class ScrambleField {
     this.#timer = setTimeout(() => this.#read(false, false), PAUSE);
   }
 
-  /** @param isReplaced by a text that was pasted: by another scramble, if it isn't the same again */
   #read(isReplaced: boolean, isPasted: boolean) {
     const text = this.#field.value;
     // an empty line more is nothing new
     if (!isPasted && this.#isRead && text.trim() === this.#shown.trim()) return;
-    const attempts = this.#reader.attempts(text);
-    const plain = this.#reader.plainLine(text);
+    const attempts = this.reader.attempts(text);
+    const plain = this.reader.plainLine(text);
     const whole = spaced(attempts[0].scramble) === spaced(plain) ? asTyped(plain) : null;
     const others = attempts.slice(1).map((each, at) => newSheet(each, { text, at: at + 1 }));
     this.#take({ text, at: 0 }, attempts, { isReplaced, whole, others: isPasted ? others : [] });
@@ -205,14 +170,13 @@ export class ScrambleField {
   /** Reads a scramble of a text that was pasted with others, as if it alone had been pasted.
    * @returns whether it is there: the page that kept the text may have had another reader */
   open(written: Written) {
-    const attempts = this.#reader.attempts(written.text);
+    const attempts = this.reader.attempts(written.text);
     const isThere = Object.hasOwn(attempts, written.at);
     if (isThere) this.#take(written, attempts, { isReplaced: true, whole: null, others: [] });
     return isThere;
   }
 
-  /** @param written which of the attempts of a text is taken
-   * @param how `whole`: what the field has, if all is its scramble; `others`: what goes onto the desk beside it */
+  /** @param how `whole`: what the field has, if all is its scramble; `others`: what goes onto the desk beside it */
   #take(
     written: Written, attempts: Attempt[],
     { isReplaced, whole, others }: { isReplaced: boolean; whole: string | null; others: NewSheet[] },
@@ -235,7 +199,7 @@ export class ScrambleField {
     // Back leads to the scramble that was deleted and its lines, also once another one is typed
     const isStep = (isNew || this.#isEmptied) && !this.#isDraft;
     this.#isDraft = this.#isEmptied;
-    this.#acts.change(line, { isNew, isDrawn: false, isDraft: this.#isDraft, fmc, isStep, others });
+    this.acts.change(line, { isNew, isDrawn: false, isDraft: this.#isDraft, fmc, isStep, others });
     // one that has steps is in doubt with these
     if (fmc === null) this.#doubt = doubt;
   }
@@ -260,24 +224,17 @@ export class ScrambleField {
   #put(scramble: string) {
     const isStep = !this.#isDraft;
     this.show(scramble);
-    this.#acts.change(scramble, { isNew: true, isDrawn: true, isDraft: false, fmc: null, isStep, others: [] });
+    this.acts.change(scramble, { isNew: true, isDrawn: true, isDraft: false, fmc: null, isStep, others: [] });
   }
 
-  async #draw(seed: string) {
-    this.#seed.value = seed;
-    // of several that are asked for at once the last one counts, whose seed is shown
-    const draw = ++this.#draws;
-    const show = (fault: Error | null) =>
-      showFault(part("seed-fault"), this.#seed, this.#reader.plainLine(seed), fault, seed);
+  async #draw() {
+    const [seed] = crypto.getRandomValues(new BigUint64Array(1));
     try {
-      const scramble = await this.#calls.ask("scrambleOf", { seed });
-      if (draw !== this.#draws) return;
-      show(scramble === null ? new Error(SEEDS) : null);
-      if (scramble === null) return;
+      const scramble = await this.calls.ask("scrambleOf", { seed });
       this.#put(scramble);
-      announce(`Scramble from seed ${seed}: ${scramble}`);
+      announce(`Random scramble: ${scramble}`);
     } catch (fault) {
-      if (draw === this.#draws && !(fault instanceof Stopped)) show(thrownError(fault));
+      if (!(fault instanceof Stopped)) tell(part("alert"), unanswered(fault));
     }
   }
 }

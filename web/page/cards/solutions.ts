@@ -5,17 +5,14 @@ import { thrownError, present } from "../shared/certain.js";
 import { announce, announceLater, counted, element, part, setBusy, spoken, tell } from "../shared/element.js";
 import { Filters, NOT_MOVES, ofCases, offerCases, offerMoves, withTurns } from "./filters.js";
 import { GREATEST_SLACK } from "../state/limits.js";
-import { addRows, roveWithin, showRows, starButton, takeButton, takeNamed } from "../shared/rows.js";
-import {
-  axisName, bracketed, reductionsAfter, stateOf, stepNamed, titleOf,
-} from "../shared/offered-steps.js";
+import { addRows, roveWithin, showRows, starButton, takeButton, takeNamed, type StarActs } from "../shared/rows.js";
+import { axisName, partOf, reductionsAfter, stateOf, stepNamed, titleOf, type Part } from "../shared/offered-steps.js";
 import { signsOfCases, triggerOf } from "../shared/passage.js";
-import { sidesOfTwins, withTwins } from "../shared/twins.js";
+import { sidesOfTwins, type Entry } from "../shared/twins.js";
 import { isNarrow } from "../shared/view.js";
 import type { Calls } from "../shared/questions.js";
-import type { Entry, Rows } from "../answers/list-rows.js";
+import type { Rows } from "../answers/list-rows.js";
 import type { List } from "../state/address.js";
-import type { Moves as Part } from "../../module/shared/sides.js";
 
 /** `longest`: how many signs its longest row has; `list`: of those that are shown. */
 export type Group = { name: string; entries: Entry[]; longest: number; list: HTMLElement | null };
@@ -25,18 +22,14 @@ const LONG_LINE = 18;
 const MOST_SHOWN = 200;
 const LOOKING = "Looking …";
 
-/** What a list is called. */
 const nameOfList = ({ step, side }: List) =>
   `${titleOf(stepNamed(step))}, ${side === "both" ? "both sides" : `${side} side`}`;
 
 /** What is said of a list. @param matching how many are left */
-function noteOfList({ entries, all, left, whole }: Rows, matching: number, shown: number) {
+function noteOfList({ entries, all, whole }: Rows, matching: number, shown: number) {
   if (all === 0) return "No solution within 20 moves.";
   const sentences = [`${whole ? "" : "More than "}${counted(all, "solution")}.`];
-  const earlier = all - left;
-  if (earlier === 1) sentences.push("1 that reaches it before its last move is left out.");
-  if (earlier > 1) sentences.push(`${earlier.toLocaleString("en")} that reach it before their last move are left out.`);
-  if (left > entries.length) sentences.push(`${counted(entries.length, "row")}: twins share one.`);
+  if (all > entries.length) sentences.push(`${counted(entries.length, "row")}: twins share one.`);
   if (matching < entries.length) sentences.push(`${counted(matching, "row")} ${matching === 1 ? "matches" : "match"}.`);
   const first = shown.toLocaleString("en");
   if (shown < matching) sentences.push(`The first ${first} are shown: type moves to narrow the list.`);
@@ -51,39 +44,28 @@ function nameOfGroup({ length, total, passed = [] }: Entry) {
   return [counted(length, "move"), ...inAll, ...(trigger === "" ? [] : [`trigger from ${trigger}`])].join(", ");
 }
 
-/** How many signs the moves of an entry are, with their cases. */
-const signsOf = ({ part: own, passed = [] }: Entry) => Math.ceil(bracketed([own]).length + signsOfCases(passed));
+const signsOf = ({ moves, passed = [] }: Entry) => Math.ceil(moves.length + signsOfCases(passed));
 
-/** What is done from a list. */
-type ListActs = {
+type ListActs = StarActs & {
   take: (parts: Part[], key: string) => void;
   change: (change: Partial<List> | null) => void;
-  star: (button: HTMLElement, parts: Part[]) => void;
-  isStarred: (parts: Part[]) => boolean;
-  isSeen: (parts: Part[]) => boolean;
 };
 
 export class SolutionList {
-  #calls: Calls;
-  #acts: ListActs;
   #name = "";
   #list: List | null = null;
   #rows: Rows | null = null;
-  /** What the filters leave, in its order, which is that of its groups. */
   #matching: Entry[] = [];
   #ordered: Group[] = [];
   #shown = MOST_SHOWN;
-  #filters = new Filters<Entry>("list", part("solutions-note"), [[
-    withTurns("filter", ({ moves, others, part: own, twins }) =>
-      (twins === undefined ? withTwins(moves, others) : sidesOfTwins(own, twins))),
+  #filters = new Filters<Entry>("list", part("solutions-note"), [
+    withTurns("filter", (entry) => sidesOfTwins(entry, entry.others)),
     ofCases("list-cases", (entry) => this.#namesOf(entry)),
-  ]], () => this.#filtered());
+  ], () => this.#filtered());
   #groups = part("solutions-groups");
 
   /** @param calls of its own */
-  constructor(calls: Calls, acts: ListActs) {
-    this.#calls = calls;
-    this.#acts = acts;
+  constructor(private readonly calls: Calls, private readonly acts: ListActs) {
     offerMoves("slack", GREATEST_SLACK);
     part("slack").addEventListener("change", () => acts.change({ slack: Number(part("slack").value) }));
     part("list-side").addEventListener("change", () => acts.change({ side: part("list-side").value as List["side"] }));
@@ -96,21 +78,19 @@ export class SolutionList {
     part("list-filters").open = !isNarrow();
   }
 
-  /** Ends the worker; what was shown is looked for anew. */
   end() {
     this.#name = "";
-    this.#calls.end();
+    this.calls.end();
   }
 
   /** Looks for a list, or shows that none is open; one that is shown already stays. Says whether it is shown in the
-   * end.
-   * @param name what tells it from others */
+   * end. @param name what tells it from others */
   async show(name: string, list: List | null, line: { scramble: string; parts: Part[] } | null) {
     if (name === this.#name) return false;
     this.#name = name;
-    this.#calls.stop();
+    this.calls.stop();
     // the engine searches while the card is drawn; what is wrong is said where it is waited for
-    const asked = list && line && this.#calls.ask("rowsOfList", { list, scramble: line.scramble, parts: line.parts });
+    const asked = list && line && this.calls.ask("rowsOfList", { list, scramble: line.scramble, parts: line.parts });
     asked?.catch(() => {});
     this.#open(list);
     if (!asked) return false;
@@ -128,7 +108,6 @@ export class SolutionList {
     return isStill();
   }
 
-  /** Shows that a list is looked for, or that none is open. */
   #open(list: List | null) {
     const isSame = list?.step === this.#list?.step && list?.side === this.#list?.side;
     // the filters stay for the same list with other rows, and what is typed while it is looked for stays too
@@ -158,7 +137,6 @@ export class SolutionList {
     tell(part("solutions-note"), LOOKING);
   }
 
-  /** @param rows of the open list */
   #take(rows: Rows) {
     this.#rows = rows;
     this.#setWorking(false);
@@ -179,7 +157,7 @@ export class SolutionList {
     part("solutions").scrollIntoView({ block: "nearest" });
   }
 
-  /** Makes the row of some moves seen, and returns its button, or null. */
+  /** Makes the row of some moves seen. @returns its button, or null */
   reveal(key: string) {
     const at = this.#rows === null ? -1 : this.#matching.findIndex(({ moves }) => moves === key);
     if (at >= this.#shown) {
@@ -204,7 +182,6 @@ export class SolutionList {
     return this.#rows !== null;
   }
 
-  /** Shows more rows, and goes to the first of them. */
   #more() {
     const next = this.#matching[this.#shown];
     this.#shown += MOST_SHOWN;
@@ -212,14 +189,14 @@ export class SolutionList {
     takeNamed(this.#groups, next.moves)?.focus();
   }
 
-  /** @returns the names of the cases after a solution, for each reduction that may follow */
+  /** The cases after a solution, for each reduction that may follow. */
   #casesOf({ cases }: Entry) {
     if (cases === undefined) return [];
     return reductionsAfter(present(this.#list).step).map((step) => (
       { state: stateOf(step), axis: axisName(step.axis), name: cases[step.axis] }));
   }
 
-  /** @returns by which cases an entry is filtered: those after it, or that from which its trigger goes */
+  /** By which cases an entry is filtered: those after it, or that from which its trigger goes. */
   #namesOf(entry: Entry) {
     const trigger = triggerOf(entry.passed ?? []);
     return trigger === "" ? this.#casesOf(entry).map(({ name }) => name) : [trigger];
@@ -236,7 +213,6 @@ export class SolutionList {
     if (left === null) tell(part("solutions-note"), NOT_MOVES);
   }
 
-  /** @returns in the order of their rows */
   #grouped(matching: Entry[]): Group[] {
     const groups = new Map<string, Group>();
     for (const entry of matching) {
@@ -279,18 +255,17 @@ export class SolutionList {
   }
 
   #item(entry: Entry) {
-    const { moves, others, part: own, passed = [] } = entry;
+    const { moves, others, passed = [] } = entry;
     if (moves === "") return element("li", { class: "reached" }, "no moves: it is reached");
-    const [added, key, cases] = [[own], moves, this.#casesOf(entry)];
-    const text = bracketed(added);
+    const [added, cases] = [[partOf(entry)], this.#casesOf(entry)];
     const twins = others.map((other) => `or ${spoken(other)}`);
     const said = { passed, cases: cases.map(({ axis, name }) => `${axis} ${name}`), twins };
     return element("li", {},
-      takeButton(text, { key, isSeen: this.#acts.isSeen(added), ...said }, () => this.#acts.take(added, key)),
+      takeButton(moves, { key: moves, isSeen: this.acts.isSeen(added), ...said }, () => this.acts.take(added, moves)),
       ...(others.length === 0 ? [] : [element("small", { class: "twins" }, `/ ${others.join(" / ")}`)]),
       ...(cases.length === 0 ? [] : [element("span", { class: "cases" }, ...cases.map(({ axis, name, state }) =>
         element("span", { class: "case", "data-marks": state }, `${axis} ${name}`)))]),
       element("span", { class: "acts" },
-        starButton(text, () => this.#acts.isStarred(added), (star) => this.#acts.star(star, added))));
+        starButton(moves, () => this.acts.isStarred(added), (star) => this.acts.star(star, added))));
   }
 }

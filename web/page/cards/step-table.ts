@@ -2,21 +2,18 @@
 // the least length, all moves, and how many solutions there are; and what is reached.
 import { counted, element, part } from "../shared/element.js";
 import {
-  SIDES, caseOfStep, isReduced, stateOf, statesOf, titleOf,
+  SIDES, isReduced, stateOf, statesOf, titleOf, type OfferedStep, type Part, type Side, type Step,
 } from "../shared/offered-steps.js";
 import type { Calls } from "../shared/questions.js";
 import type { Counted, Examined, Offer, Unexamined } from "../answers/examine.js";
 import type { Facts } from "../../module/shared/facts.js";
 import type { List } from "../state/address.js";
-import type { Moves, Side } from "../../module/shared/sides.js";
-import type { Step } from "../../module/shared/steps.js";
 
-export type Told = Examined | Unexamined;
+type Told = Examined | Unexamined;
 export type Cube = { facts: Facts; made: number; reached: string[] };
 
 /** The least length, what that makes in all, if moves were made before, and how many solutions there are, or how many
- * of them make that, with a word that is said and not shown.
- * @param made moves before it */
+ * of them make that, with a word that is said and not shown. */
 function wordsOfRow({ length, total, solutions, best }: Counted, made: number): string[] {
   if (length === null) return ["–", "", "none within 20 moves", ""];
   const [some, all] = [best, solutions].map((each) => each.toLocaleString("en"));
@@ -24,13 +21,17 @@ function wordsOfRow({ length, total, solutions, best }: Counted, made: number): 
   return [counted(length, "move"), made > 0 ? `${total} in all, ` : "", ...words];
 }
 
+/** What solvers choose a step by: bad edges, or the case. */
+export const caseOfStep = ({ badEdges, case: cases }: Facts, { axis, needs }: OfferedStep) =>
+  (needs === null ? counted(badEdges[axis].length, "bad edge") : cases[axis]);
+
 /** How long the page waits for all offers, to show them together with the cube. */
 const SOON = 50;
 
 /** The cube, and the steps that may follow, each with its counts on both sides: by one question, so that none waits for
  * the page. They are waited for a moment, since what is shown by itself is laid out and painted by itself. */
 export async function cubeWithOffers(
-  calls: Calls, typed: { text: string; parts: Moves[] },
+  calls: Calls, typed: { text: string; parts: Part[] },
 ): Promise<{ cube: Told; offers: Promise<Offer[]> }> {
   const acts: { settle: (told: Told | Offer[]) => void; refuse: (fault: unknown) => void }[] = [];
   const told = [0, 1].map(() => new Promise<Told | Offer[]>((settle, refuse) => acts.push({ settle, refuse })));
@@ -43,25 +44,20 @@ export async function cubeWithOffers(
   return { cube: await cube, offers };
 }
 
-/** @returns whether offers are reductions */
 const areReductions = ([{ step }]: Offer[]) => step.needs !== null;
 
 /** Whether some offers keep what is reached: each does where that is nothing, and a reduction keeps its orientation. */
 const keepsReached = (offers: Offer[], reached: string[]) =>
   reached.length === 0 || (areReductions(offers) && !isReduced(reached));
 
-/** @returns the least length of a group of offers */
 const leastOf = (offers: Offer[]) =>
   Math.min(...offers.flatMap((offer) => SIDES.map((side) => offer[side].length ?? Infinity)));
 
 export class StepTable {
-  #chosen: (step: Step, side: Side) => void;
   #focused: HTMLElement | null = null;
   #body = part("steps-body");
 
-  constructor(chosen: (step: Step, side: Side) => void) {
-    this.#chosen = chosen;
-  }
+  constructor(private readonly chosen: (step: Step, side: Side) => void) {}
 
   /** Dims the offers of the last cube, with all that rests on them, until those of the next one are there. */
   hold() {
@@ -94,12 +90,10 @@ export class StepTable {
     if (focused) this.cell(focused)?.focus({ preventScroll: true });
   }
 
-  /** @returns the cell of this name, or null */
   cell(name: string) {
     return [...this.#body.querySelectorAll("[data-cell]")].find(({ dataset }) => dataset.cell === name) ?? null;
   }
 
-  /** The cell of the first of the shortest steps that are left, or null. */
   #least() {
     return this.#body.querySelector(".least");
   }
@@ -124,7 +118,6 @@ export class StepTable {
     places.find(mayHave)?.focus({ preventScroll: true });
   }
 
-  /** Shows which list is open. */
   mark(list: List | null) {
     const open = list && `${list.step}.${list.side}`;
     for (const cell of this.#body.querySelectorAll("[data-cell]")) {
@@ -143,7 +136,6 @@ export class StepTable {
     if (!cell?.closest("[inert]")) cell?.click();
   }
 
-  /** @returns what stands above the offers that begin anew */
   #anew({ reached }: Cube) {
     const words = `Going on from here, this ${isReduced(reached) ? "DR" : "EO"} given up`;
     return element("tr", { class: "anew" }, element("td", { colspan: 3, class: "note" }, words));
@@ -160,11 +152,8 @@ export class StepTable {
       ...SIDES.map((side) => this.#cell(offer, side, { least, made: cube.made, list }))));
   }
 
-  #cell(
-    { step, ...counts }: Offer, side: Side,
-    { least, made, list }: { least: number | null; made: number; list: List | null },
-  ) {
-    const count = counts[side];
+  #cell(offer: Offer, side: Side, { least, made, list }: { least: number | null; made: number; list: List | null }) {
+    const [step, count] = [offer.step, offer[side]];
     const [length, all, solutions, word] = wordsOfRow(count, made);
     const name = `${step.name}.${side}`;
     const isLeast = least !== null && count.length === least;
@@ -175,7 +164,7 @@ export class StepTable {
       "data-cell": name,
       "aria-pressed": String(list !== null && name === `${list.step}.${list.side}`),
       "aria-label": `${titleOf(step)}, ${side} side: ${length}, ${all}${solutions}${word}${shortest}`,
-      click: () => this.#chosen(step.name, side),
+      click: () => this.chosen(step.name, side),
     }, element("strong", {}, length), element("small", {}, all, element("span", { class: "together" }, solutions))));
   }
 }

@@ -8,15 +8,13 @@ const TELLING_AXES = ["U/D", "F/B", "R/L"];
 /** The pieces by their faces: each edge, and then each corner. */
 export const PIECES = [...EDGE_PLACES, ...CORNER_PLACES];
 
-/** @returns the two faces of an axis in words */
 const eitherOf = (axis: string) => axis.replace("/", " or ");
 
 /** Which of some faces is of the first axis that has one of them. */
 const whichTells = (faces: string[], axes: string[]) =>
   present(axes.map((axis) => faces.findIndex((face) => axis.includes(face))).find((at) => at >= 0));
 
-/** Whether an edge is oriented on an axis.
- * @param faces where it is
+/** @param faces where an edge is
  * @param colours that it has there */
 function edgeOriented(faces: string[], colours: string[], axis: string) {
   const [first, last] = TELLING_AXES.filter((each) => each !== axis);
@@ -27,7 +25,6 @@ function edgeOriented(faces: string[], colours: string[], axis: string) {
   return `bad for EO ${axis}: its ${colours[told]} belongs on ${faces[telling]}, and is on ${faces[told]} (${rule})`;
 }
 
-/** Whether an edge is on its side of a slice. @param axis of the reduction */
 function edgePlaced(faces: string[], colours: string[], axis: string) {
   const isIn = (letters: string[]) => !letters.some((each) => axis.includes(each));
   const [where, has] = isIn(colours) ? ["in the slice", "has no"] : ["outside the slice", "has"];
@@ -36,16 +33,13 @@ function edgePlaced(faces: string[], colours: string[], axis: string) {
   return `bad for DR ${axis}: it belongs ${where}, ${why}`;
 }
 
-/** Whether a corner is oriented on an axis. */
 function cornerOriented(faces: string[], colours: string[], axis: string) {
   const at = colours.findIndex((colour) => axis.includes(colour));
   if (axis.includes(faces[at])) return `good for DR ${axis}: its ${colours[at]} is on ${faces[at]}`;
   return `bad for DR ${axis}: its ${colours[at]} belongs on ${eitherOf(axis)}, and is on ${faces[at]}`;
 }
 
-/** Why a piece is good or bad.
- * @param letters of the cube
- * @param name where it is
+/** @param name where the piece is
  * @param choice what is marked, such as `EO F/B`, or "" for each axis */
 export function whyOf(letters: string, name: typeof PIECES[number], choice: string) {
   const [faces, colours] = [[...name], stickersOf([name]).map((place) => letters[place])];

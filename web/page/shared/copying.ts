@@ -1,10 +1,9 @@
 // Copies: a line as solvers write it on a scoresheet, the scramble on top and then a step a line with what it reaches
 // and how long it is; and how a text comes to the clipboard.
 import { announce, button, element, part } from "./element.js";
-import { SIDES, bracketed, newlyReached, turnsOfStep } from "./offered-steps.js";
+import { SIDES, bracketed, newlyReached, stateOf, stepNamed, type Part } from "./offered-steps.js";
 import { tellAt } from "./view.js";
 import type { KeptWalk, Walk } from "../answers/examine.js";
-import type { Moves as Part } from "../../module/shared/sides.js";
 
 /** A step with its comment, such as `D R B2 // DR R/L (3/10)`: its moves, and those up to its end. */
 function stepLine(walk: Walk, index: number) {
@@ -14,16 +13,14 @@ function stepLine(walk: Walk, index: number) {
   return `${bracketed([walk.parts[index]])} // ${said}`;
 }
 
-/** @returns the steps of a line, a text of a line each */
 const stepLines = (walk: Walk) => walk.parts.map((_, index) => stepLine(walk, index));
 
 export const fmcOf = (scramble: string, walk: Walk) => [scramble, ...stepLines(walk)].join("\n");
 
-/** The first of the reductions that a line was kept with, as its last step. @returns none without one */
-const lineOfNext = ({ next }: KeptWalk): string[] => (!next?.first ? []
-  : [`${bracketed([next.first])} // ${next.state} (${turnsOfStep(next.first).length}/${next.total})`]);
+/** The first of the reductions that a line was kept with, as its last step. */
+const lineOfNext = ({ next }: KeptWalk): string[] => (!next?.dr.moves ? []
+  : [`${next.dr.moves} // ${stateOf(stepNamed(next.dr.step))} (${next.dr.length}/${next.total})`]);
 
-/** Some candidates of a scramble, with their notes. */
 export function fmcOfAll(scramble: string, candidates: { walk: KeptWalk; notes: string[] }[]) {
   const blocks = candidates.map(({ walk, notes }) =>
     [...stepLines(walk), ...lineOfNext(walk), ...notes.map((note) => `// ${note}`)].join("\n"));
@@ -32,7 +29,6 @@ export function fmcOfAll(scramble: string, candidates: { walk: KeptWalk; notes: 
 
 const MOMENT = 1500;
 
-/** Shows a word on a button for a moment. */
 function sayOn(button: HTMLElement, word: string) {
   button.dataset.word ??= button.textContent;
   // no narrower, so that it stays below what presses it
@@ -68,9 +64,8 @@ function showUncopied(text: string) {
   announce("The browser doesn't let the page copy. The text is selected: copy it with the keys of your system.");
 }
 
-/** @param shownIn what shows the text
- * @returns whether it is copied */
-export async function copy(text: string, button: HTMLElement, shownIn: HTMLElement | null = null): Promise<boolean> {
+/** @returns whether it is copied */
+export async function copy(text: string, button: HTMLElement): Promise<boolean> {
   if (text === "") return false;
   let isDone = true;
   try {
@@ -78,33 +73,22 @@ export async function copy(text: string, button: HTMLElement, shownIn: HTMLEleme
   } catch {
     isDone = copiedByField(text);
   }
-  if (isDone) {
-    announce(`Copied: ${text}`);
-    sayOn(button, "Copied");
-  } else if (shownIn) {
-    getSelection()?.selectAllChildren(shownIn);
-    announce("Selected; copy it with the keys of your system.");
-    sayOn(button, "Selected");
-  } else {
-    showUncopied(text);
-    sayOn(button, "Not copied");
-  }
+  if (isDone) announce(`Copied: ${text}`);
+  else showUncopied(text);
+  sayOn(button, isDone ? "Copied" : "Not copied");
   return isDone;
 }
 
 /** How the cube in one's hands is set up on each side, from solved: premoves, scramble and moves, each to be copied.
  * @param lines that lead there
  * @param of what is there, as it is said after the names of the buttons */
-export const setUps = (lines: Part, of = "") => SIDES.flatMap((side) => {
-  const shown = element("output", { class: "moves" }, lines[side]);
-  return [
-    element("dt", {}, `Set-up of the ${side} side, from solved`),
-    element("dd", {}, shown, button("Copy", {
-      class: "quiet", "aria-label": `Copy the set-up of the ${side} side${of}`,
-      click: ({ currentTarget }) => copy(lines[side], currentTarget, shown),
-    })),
-  ];
-});
+export const setUps = (lines: Part, of = "") => SIDES.flatMap((side) => [
+  element("dt", {}, `Set-up of the ${side} side, from solved`),
+  element("dd", {}, element("output", { class: "moves" }, lines[side]), button("Copy", {
+    class: "quiet", "aria-label": `Copy the set-up of the ${side} side${of}`,
+    click: ({ currentTarget }) => copy(lines[side], currentTarget),
+  })),
+]);
 
 const LINK_OF_FILE = "This page is a file, so the link leads to it on this computer alone. Whoever else has the file "
   + "can put what stands after the # behind its address.";

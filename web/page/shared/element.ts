@@ -11,27 +11,26 @@ export type PageElement = HTMLElement & {
   selectionStart: number;
   selectionEnd: number;
   showPopover(): void;
+  showModal(): void;
+  close(): void;
   setSelectionRange(from: number, to: number): void;
   max: number;
   open: boolean;
 };
 
-/** @returns the element of the page that has this id */
+/** The element of the page that has this id. */
 export function part(id: string): PageElement {
   const found = document.getElementById(id);
   if (!found) throw new Error(`the page has no part ${id}`);
   return found as PageElement;
 }
 
-/** @returns what stands within a part of the page by a selector */
 export const inner = (within: ParentNode, selector: string): HTMLElement => present(within.querySelector(selector));
 
-/** What happens to an element of the page. */
-export type Happened = Event & { readonly target: PageElement; readonly currentTarget: PageElement };
+type Happened = Event & { readonly target: PageElement; readonly currentTarget: PageElement };
 /** Attributes by their names, and listeners as functions. */
 export type Attributes = Record<string, string | number | boolean | ((event: Happened) => void)>;
 
-/** A new element, with children that are elements or text. */
 export function element(name: string, attributes: Attributes = {}, ...children: (Node | string)[]): PageElement {
   const made = document.createElement(name);
   for (const [key, value] of Object.entries(attributes)) {
@@ -43,7 +42,6 @@ export function element(name: string, attributes: Attributes = {}, ...children: 
   return made as PageElement;
 }
 
-/** @returns a new button */
 export const button = (text: string, attributes: Attributes) =>
   element("button", { type: "button", ...attributes }, text);
 
@@ -71,19 +69,18 @@ export function announceLater(text: string) {
 const LONG_WAIT = 500;
 const waiting = new Map<string, number>();
 
-/** Says of a part of the page whether it waits for answers, and to screen readers for what, if that takes a while.
- * @param text what is said */
+/** Says of a part of the page whether it waits for answers, and to screen readers for what, if that takes a while. */
 export function setBusy(id: string, isBusy: boolean, text = "") {
   part(id).setAttribute("aria-busy", String(isBusy));
   clearTimeout(waiting.get(id));
   if (isBusy && text !== "") waiting.set(id, setTimeout(announce, LONG_WAIT, text));
 }
 
-/** @returns a number with its word: `1 move`, `1,200 moves` */
+/** A number with its word: `1 move`, `1,200 moves`. */
 export function counted(count: number, word: string) {
   return `${count.toLocaleString("en")} ${word}${count === 1 ? "" : "s"}`;
 }
 
-/** @returns moves as they are said, since an apostrophe isn't read as solvers read it */
+/** Moves as they are said, since an apostrophe isn't read as solvers read it. */
 export const spoken = (moves: string) => moves.replace(/'/g, " prime").replace(/\(/g, "on the inverse side ")
   .replace(/\)/g, "");

@@ -5,13 +5,12 @@ import { element } from "./element.js";
 /** The cases from which solvers know the moves to the end. */
 const KNOWN_CASES = ["4c4e", "4c2e", "3c2e", "2c4e"];
 
-/** How wide a sign of a case is beside one of the moves. */
 const SIGN_OF_CASE = 0.8;
 
 /** Where the trigger begins: from there on each case is known. @param cases before each move */
 const startOfTrigger = (cases: string[]) => cases.findLastIndex((each) => !KNOWN_CASES.includes(each)) + 1;
 
-/** @returns the case from which the trigger goes, "" if there is none */
+/** The case from which the trigger goes, "" if there is none. */
 export const triggerOf = (cases: string[]) => cases[startOfTrigger(cases)] ?? "";
 
 /** The places of the moves before which a case is written: where it is another one. */
@@ -36,7 +35,6 @@ export function withCases(text: string, cases: string[]): (Node | string)[] {
   ]);
 }
 
-/** What is said of the way of a reduction. */
 export function saidOfCases(cases: string[]) {
   const [first, trigger] = [cases.slice(0, 1), triggerOf(cases)];
   return [...first.map((each) => `from ${each}`), ...(trigger === "" ? [] : [`trigger from ${trigger}`])];

@@ -2,12 +2,11 @@
 // asked), so that the page never waits. Workers start and build tables while nothing else is asked.
 import { NissyFault } from "../../module/shared/faults.js";
 import { WorkerQueue, type SentModule } from "../../module/workers/worker-queue.js";
-import { ORIENTATIONS, REDUCTIONS, namesOf, openSteps, reductionsAfter } from "./offered-steps.js";
+import { ORIENTATIONS, REDUCTIONS, namesOf, openSteps, reductionsAfter, type Step } from "./offered-steps.js";
 import { waitsForAnswers } from "./view.js";
 import { watched } from "./watch.js";
 import type { Answers } from "../page-worker.js";
 import type { Request } from "../../module/calls/requests.js";
-import type { Step } from "../../module/shared/steps.js";
 
 const UNREADABLE = "An answer of it can't be read.";
 
@@ -49,7 +48,7 @@ type Followed = ((progress: unknown) => void) | undefined;
 /** An engine in a worker of its own, which the first question starts. */
 export class Calls {
   #queue: WorkerQueue;
-  /** how many answers are waited for, beside tables */
+  /** How many answers are waited for, beside tables. */
   #asked = 0;
   /** The steps whose tables are built. */
   #ready = new Set<string>();
@@ -107,7 +106,6 @@ export class Calls {
     this.end();
   }
 
-  /** The same, also of a worker that has nothing to do. */
   end() {
     this.#ready.clear();
     this.#unready = [];
@@ -115,20 +113,15 @@ export class Calls {
   }
 }
 
-/** How long nothing is asked before it begins. */
 const REST = 150;
 
 type Workers = { calls: Calls; byHand: Calls; list: Calls; finders: Calls[] };
 
 export class Readiness {
-  #workers: Workers;
   #timer = 0;
 
-  constructor(workers: Workers) {
-    this.#workers = workers;
-  }
+  constructor(private readonly workers: Workers) {}
 
-  /** Waits for a later moment, or for none. */
   stop() {
     clearTimeout(this.#timer);
   }
@@ -141,7 +134,7 @@ export class Readiness {
   }
 
   #build(reached: string[], isBare: boolean) {
-    const { calls, byHand, list, finders } = this.#workers;
+    const { calls, byHand, list, finders } = this.workers;
     byHand.ready(["eofb"]);
     list.ready(namesOf(openSteps(reached)));
     // those that have looked for the best have their own

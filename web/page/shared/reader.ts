@@ -6,18 +6,14 @@ import { TextInMemory } from "../../module/text/text-calls.js";
 import { WrittenText, type PlainLine } from "../../module/text/written.js";
 import type { SentModule } from "../../module/workers/worker-queue.js";
 
-/** @returns it as it stands there */
 const asItStands = (text: string): PlainLine => ({ line: text, places: Array.from(text, (_, at) => at), leftOut: [] });
 
 const readBy = (instance: Instance, text: string) => new TextInMemory(instance, new WrittenText(text));
 
 export class Reader {
-  #instance: Instance | null;
 
   /** @param instance null if the page has no engine: then all stays as it stands */
-  constructor(instance: Instance | null) {
-    this.#instance = instance;
-  }
+  constructor(private readonly instance: Instance | null) {}
 
   static async start(module: SentModule) {
     try {
@@ -29,10 +25,10 @@ export class Reader {
   }
 
   plainLine(text: string): PlainLine {
-    return this.#instance === null ? asItStands(text) : readBy(this.#instance, text).plain();
+    return this.instance === null ? asItStands(text) : readBy(this.instance, text).plain();
   }
 
   attempts(text: string): Attempt[] {
-    return this.#instance === null ? [attemptOf(asItStands(text))] : attemptsIn(readBy(this.#instance, text));
+    return this.instance === null ? [attemptOf(asItStands(text))] : attemptsIn(readBy(this.instance, text));
   }
 }

@@ -1,16 +1,24 @@
 // Rows of moves, in a list or a table: what is pressed in each, how they come and go, and one stop of the Tab key for
 // all of them, with the arrow keys, Home and End from row to row, and from button to button within one.
+import { present } from "./certain.js";
 import { button, element, inner, part, spoken } from "./element.js";
 import { saidOfCases, withCases } from "./passage.js";
+import type { Moves as Part } from "../../module/shared/sides.js";
 
 /** The rows that were pressed since moves are covered. */
 const uncovered = new Set<string>();
 
-/** What says of a star whether its row is kept. */
 const keptBy = new WeakMap<HTMLElement, () => boolean>();
 
 /** What a button of a row is called, and what while the row's moves are covered: then it says nothing of them. */
 const named = (open: string, covered: string) => ({ tabindex: -1, "data-open": open, "data-covered": covered });
+
+/** What is done with the moves of a row, and known of them. @param next the reduction after them */
+export type StarActs = {
+  star: (button: HTMLElement, parts: Part[], next?: string) => void;
+  isStarred: (parts: Part[], next?: string) => boolean;
+  isSeen: (parts: Part[], next?: string) => boolean;
+};
 
 /** What a row is known by, what else is said of it, the cases that it passes, and whether it was taken. */
 type AboutRow = { key: string; twins?: string[]; cases?: string[]; passed?: string[]; isSeen: boolean };
@@ -29,7 +37,6 @@ export function takeButton(
   return element("button", { type: "button", ...about }, ...withCases(text, passed));
 }
 
-/** The button that keeps the moves of a row. */
 export function starButton(text: string, isKept: () => boolean, click: (button: HTMLElement) => void) {
   const names = named(`Keep ${spoken(text)}`, "Keep the covered moves");
   const star = button("", { class: "star", ...names, click: ({ currentTarget }) => click(currentTarget) });
@@ -70,15 +77,10 @@ export function offerCover() {
   }, { capture: true });
 }
 
-/** How many rows a key leads on, and how many buttons within a row. */
 const ROWS: Record<string, number> = { ArrowDown: 1, ArrowUp: -1, PageDown: 10, PageUp: -10 };
 const BUTTONS: Record<string, number> = { ArrowRight: 1, ArrowLeft: -1 };
 
-function rowOf(node: Element): HTMLElement {
-  const row = node.closest("li, tr");
-  if (!(row instanceof HTMLElement)) throw new Error("this stands in no row");
-  return row;
-}
+const rowOf = (node: Element) => present(node.closest("li, tr")) as HTMLElement;
 const buttonsOf = (row: ParentNode) => [...row.querySelectorAll("button")];
 const takesOf = (holder: ParentNode) => [...holder.querySelectorAll(".take")];
 const takeOf = (row: HTMLElement) => inner(row, ".take");
@@ -96,7 +98,6 @@ function buttonAfter(key: string, from: HTMLElement, holder: HTMLElement) {
   return nearest(buttons, buttons.indexOf(from) + BUTTONS[key]);
 }
 
-/** @param holder of the rows */
 export function roveWithin(holder: HTMLElement) {
   holder.addEventListener("keydown", (event) => {
     if (event.ctrlKey || event.altKey || event.metaKey) return;
@@ -115,7 +116,6 @@ export function roveWithin(holder: HTMLElement) {
 export const takeNamed = (holder: HTMLElement, key: string) =>
   takesOf(holder).find((take) => keyOf(take) === key) ?? null;
 
-/** Adds rows below others. */
 export function addRows(holder: HTMLElement, rows: HTMLElement[]) {
   holder.append(...rows);
   for (const row of rows) refreshRows(row);

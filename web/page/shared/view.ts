@@ -4,16 +4,12 @@ import { store, stored } from "../state/storage.js";
 import type { State } from "../state/address.js";
 
 const EDGE = 16;
-/** Whether the columns stand beside each other. */
 export const areBeside = () => matchMedia("(min-width: 60rem)").matches;
 
-/** Whether the page is as narrow as a phone's. */
 export const isNarrow = () => matchMedia("(max-width: 37.5rem)").matches;
 
-/** @returns whether nothing was done yet */
 export const isBare = ({ scramble, parts }: State) => scramble.trim() === "" && parts.length === 0;
 
-/** Shows the beginning, where nothing was done yet. */
 export function showBeginning(state: State) {
   const isShown = isBare(state);
   part("welcome").hidden = !isShown;
@@ -75,9 +71,7 @@ function scrollToNext(isFinished: boolean) {
   if (isFinished) part("copy-fmc").scrollIntoView({ block: "nearest" });
 }
 
-/** Has what follows a step come into view and have the focus.
- * @param isFinished whether no step follows
- * @param table of the steps that do */
+/** Has what follows a step come into view and have the focus. @param isFinished whether no step follows */
 export function showStart(isFinished: boolean, table: { focus: () => void }) {
   // first, since the page is laid out for it, and the focus changes the marks
   scrollToNext(isFinished);
@@ -138,7 +132,6 @@ export function placeHelp() {
 
 const FIELDS_TO_TYPE = "input, textarea, select, [contenteditable]";
 
-/** @param acts by their keys */
 export function listenToKeys(acts: Record<string, () => void>) {
   addEventListener("keydown", (event) => {
     if (event.ctrlKey || event.altKey || event.metaKey || event.defaultPrevented || !part("keys-on").checked) return;
@@ -146,7 +139,7 @@ export function listenToKeys(acts: Record<string, () => void>) {
     // a field has its keys for itself, but for the one that closes its list
     if (isField && (event.key !== "Escape" || !part("solutions").contains(event.target))) return;
     // Escape closes help before it closes anything else
-    if (!Object.hasOwn(acts, event.key) || document.querySelector(":popover-open")) return;
+    if (!Object.hasOwn(acts, event.key) || document.querySelector(":popover-open, dialog[open]")) return;
     event.preventDefault();
     acts[event.key]();
   });

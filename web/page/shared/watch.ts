@@ -15,7 +15,6 @@ export function tellFailed(words: string) {
   part("again").hidden = !globalThis.WebAssembly;
 }
 
-/** Of the workers that are silent for too long. */
 const silent = new Set<Silence>();
 
 /** How long a worker has been silent. */

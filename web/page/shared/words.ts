@@ -17,13 +17,10 @@ const PAGE_NAME = "nissy";
 const TOO_MANY = `more than ${MOST_MOVES} moves`;
 const MOST_SIGNS = 40;
 
-/** @returns what is said of an engine that failed */
 export const engineFails = (message: string) => `The engine doesn't work here. ${message}`;
 
-/** @returns what is wrong, in the engine's words if it says so */
 export const wordsOfFault = (fault: unknown) => (fault instanceof NissyFault ? fault.text : thrownError(fault).message);
 
-/** @returns why there is no answer */
 export function unanswered(fault: unknown) {
   if (fault instanceof EngineMissing) return engineFails(fault.message);
   const words = wordsOfFault(fault);
@@ -31,7 +28,7 @@ export function unanswered(fault: unknown) {
   return `The scramble and the moves after it can't be read together: they have ${TOO_MANY}.`;
 }
 
-/** @returns what tells the tabs of pages apart */
+/** What tells the tabs of pages apart. */
 export function titleOfPage({ scramble, parts }: State) {
   // no sign that turns the direction of a text, or that isn't seen
   const plain = scramble.replace(/[\p{Cc}\p{Cf}\u2028\u2029]/gu, " ").trim();
@@ -40,11 +37,9 @@ export function titleOfPage({ scramble, parts }: State) {
   return `${words.slice(0, MOST_SIGNS)}${words.length > MOST_SIGNS ? "…" : ""} – ${PAGE_NAME}`;
 }
 
-/** @returns what is said of what was left out of a text, or "" */
 export const wordsOfLeftOut = (leftOut: string[]) => (leftOut.length === 0 ? "" : `Left out: ${leftOut.join(", ")}.`);
 
-/** @param name of the step
- * @returns why a step can't be listed, or "" */
+/** Why a step can't be listed, or "". */
 export function whyNotListed(name: string, reached: string[]) {
   if (openSteps(reached).some((step) => step.name === name)) return "";
   const step = stepNamed(name);
@@ -59,21 +54,19 @@ const LONGEST_WORD = 12;
 /** A text in which each sign has its place: blanks have one width, and what isn't seen is told by a sign. */
 const visible = (text: string) => text.replace(/\s/g, " ").replace(/[\p{Cc}\p{Cf}]/gu, "\uFFFD");
 
-/** @returns the word that stands at a place, up to a blank or a bracket */
+/** The word that stands at a place, up to a blank or a bracket. */
 function wordAt(line: string, place: number) {
   const word = [...(/^[^\s()]*/.exec(line.slice(place))?.[0] ?? "").replace(/\u2019/g, "'")];
   return visible(word.slice(0, LONGEST_WORD).join("")) + (word.length > LONGEST_WORD ? "…" : "");
 }
 
-/** A move that ends as no move does, such as `R1` or `F-1`, if it stands at a place: all of it, and its letters.
- * @param place that can't be read */
+/** A move that ends as no move does, such as `R1` or `F-1`, if it stands at a place: all of it, and its letters. */
 function oddMove(line: string, place: number): { word: string; letters: string } | null {
   const begin = /([UDRLFB]w?|[MESudrlfbxyz])['\u20192]?$/.exec(line.slice(0, place));
   const isOdd = /^(?:[-+*^'\u20190-9]|i(?!\p{L}))/u.test(line.slice(place));
   return begin && isOdd ? { word: begin[0] + wordAt(line, place), letters: begin[1] } : null;
 }
 
-/** @returns why a line is no line of moves from a place on */
 function sentenceOfMove(line: string, place: number) {
   const odd = oddMove(line, place);
   if (odd === null) return `“${wordAt(line, place)}” is no move.`;
@@ -136,18 +129,17 @@ export function showDoubt(where: HTMLElement, doubt: AttemptDoubt | null, text: 
   where.append(element("p", {}, `In doubt: ${WORDS_OF_DOUBTS[reason](wordAt(text, at))}.`), marked(oneLine(text), at));
 }
 
-/** Shows a fault under its field, or takes the last one away; returns where it is in the text, or null.
+/** Shows a fault under its field, or takes the last one away.
  * @param plain what the engine read
  * @param text what was typed */
 export function showFault(
   where: HTMLElement, field: HTMLElement, plain: PlainLine, fault: Error | null, text: string,
-): number | null {
+) {
   where.hidden = fault === null;
   where.replaceChildren();
   field.setAttribute("aria-invalid", String(fault !== null));
-  if (fault === null) return null;
+  if (fault === null) return;
   where.append(element("p", {}, fault instanceof NissyFault ? sentenceOf(fault, plain.line) : fault.message));
-  const place = fault instanceof NissyFault ? placeOf(fault, plain, text)?.at ?? null : null;
-  if (place !== null) where.append(marked(oneLine(text), place));
-  return place;
+  const place = fault instanceof NissyFault ? placeOf(fault, plain, text) : null;
+  if (place !== null) where.append(marked(oneLine(text), place.at));
 }

@@ -2,9 +2,7 @@
 // piece by piece: each piece becomes a part of the state, or is left out and named.
 import { thrownError } from "../shared/certain.js";
 import { GREATEST_SLACK, LONGEST_NOTE, LONGEST_SCRAMBLE, MOST_CANDIDATES } from "./limits.js";
-import { REDUCTIONS, SIDES, isOnAxis, isSide } from "../shared/offered-steps.js";
-import type { Moves as Part, Side } from "../../module/shared/sides.js";
-import type { Step } from "../../module/shared/steps.js";
+import { SIDES, isOffered, isReduction, isSide, type Part, type Side, type Step } from "../shared/offered-steps.js";
 
 export type List = { step: Step; side: Side | "both"; slack: number; isAll: boolean };
 /** `next`: the reduction it was kept with, or "". */
@@ -35,12 +33,12 @@ function escaped(text: string) {
     .replace(/'/g, "-");
 }
 
-/** @returns a text as the one line that the engine reads of it */
+/** A text as the one line that the engine reads of it. */
 export const oneLine = (text: string) => text.replace(/[\r\n]/g, " ");
 
 const spelled = (text: string) => decodeURIComponent(wellFormed(text).replace(/_/g, "%20").replace(/-/g, "'"));
 
-/** @returns its sides, each with its moves, such as `normal.R_U.inverse.F` */
+/** Such as `normal.R_U.inverse.F`. */
 const writtenPart = (part: Part) =>
   SIDES.filter((side) => part[side] !== "").map((side) => `${side}.${escaped(part[side])}`).join(".");
 
@@ -62,10 +60,9 @@ export function addressOf({ scramble, parts, side, list, kept, longer }: State) 
   return `#${fields.join("&")}`;
 }
 
-/** @returns whether an address has room for a state */
 export const fitsAddress = (state: State) => addressOf(state).length <= LONGEST_ADDRESS;
 
-/** @returns whether there is more to read than a scramble, which is read with what is asked of it */
+/** Whether there is more to read than a scramble, which is read with what is asked of it. */
 export const hasLines = ({ parts, kept }: State) => parts.length + kept.length > 0;
 
 function readPart(text: string): Part {
@@ -79,7 +76,6 @@ function readPart(text: string): Part {
   return part;
 }
 
-/** Splits a text into at most so many pieces. */
 function split(text: string, sign: string, most: number) {
   const pieces = text.split(sign);
   if (pieces.length > most) throw new Error("too many");
@@ -99,7 +95,7 @@ function readLonger(text: string) {
 function readList(text: string): List {
   const [step, side, slack, all, ...rest] = text.split(".");
   const isRead = isSlack(slack) && (all === undefined || all === ALL_ROWS);
-  const isKnown = isOnAxis(step) && (isSide(side) || side === "both");
+  const isKnown = isOffered(step) && (isSide(side) || side === "both");
   if (!isRead || !isKnown || rest.length > 0) throw new Error("no list");
   return { step, side, slack: Number(slack), isAll: all === ALL_ROWS };
 }
@@ -107,7 +103,7 @@ function readList(text: string): List {
 function readCandidate(text: string): Candidate {
   const [parts, note = "", next = "", ...rest] = text.split(";");
   const plain = oneLine(spelled(note));
-  const isKnown = next === "" || REDUCTIONS.some(({ name }) => name === next);
+  const isKnown = next === "" || isReduction(next);
   if (rest.length > 0 || plain.length > LONGEST_NOTE || !isKnown) throw new Error("no candidates");
   return { parts: readParts(parts), note: plain, next };
 }

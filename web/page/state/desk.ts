@@ -11,7 +11,6 @@ import type { Written } from "../answers/read-lines.js";
  * that were pasted with it, until it is opened; `isDrawn`: it came by chance, and is given up if nothing was done. */
 export type Sheet = { id: number; address: string; place: Place | null; written: Written | null; isDrawn: boolean };
 
-/** A scramble that is new on the desk. */
 export type NewSheet = { state: State; written: Written | null };
 
 const DESK = "nissy-desk";
@@ -32,7 +31,6 @@ function sheetIn(value: unknown): Sheet | null {
   return { id, address, place: placeIn(place), written: writtenIn(written), isDrawn: isDrawn === true };
 }
 
-/** @param text that the browser kept */
 function sheetsOf(text: string): Sheet[] {
   try {
     const values: unknown = JSON.parse(text || "[]");
@@ -46,7 +44,6 @@ const freshId = () => crypto.getRandomValues(new Uint32Array(1))[0];
 
 export const stateOfSheet = ({ address }: Sheet) => readAddress(address).state;
 
-/** By which two scrambles are compared. */
 const plainly = (scramble: string) => scramble.trim().replace(/ +/g, " ");
 
 export class Desk {
@@ -62,7 +59,6 @@ export class Desk {
     return this.#sheets;
   }
 
-  /** The sheet that is shown, or null. */
   get shown(): Sheet | null {
     return this.#sheets.find(({ id }) => id === this.#at) ?? null;
   }
@@ -113,7 +109,6 @@ export class Desk {
     });
   }
 
-  /** Keeps where one is on the sheet that is shown. */
   leave(place: Place) {
     this.#change((sheets) => sheets.map((each) => (each.id === this.#at ? { ...each, place } : each)));
   }

@@ -4,25 +4,23 @@
 import { addressOf, fitsAddress, type List, type State } from "./address.js";
 import { fieldsOf } from "../shared/certain.js";
 import { part, tell } from "../shared/element.js";
-import { bracketed } from "../shared/offered-steps.js";
+import { bracketed, type Part } from "../shared/offered-steps.js";
 import { NOT_IN_ADDRESS } from "../shared/words.js";
-import type { Moves as Part } from "../../module/shared/sides.js";
 
 export type Place = { key: string; scroll: number };
 
-/** @returns a place that came out of the history, or null */
+/** A place that came out of the history, or null. */
 export function placeIn(state: unknown): Place | null {
   const { key, scroll } = fieldsOf(state);
   return typeof key === "string" && typeof scroll === "number" ? { key, scroll } : null;
 }
 
-/** Where one is. */
 export function placeNow(): Place {
   const key = document.activeElement?.dataset.key ?? document.activeElement?.dataset.cell ?? "";
   return { key, scroll: scrollY };
 }
 
-/** @returns the sheet that an entry of the history is of, or 0 */
+/** The sheet that the entry of the history is of, or 0. */
 export function sheetOfEntry(): number {
   const { sheet } = fieldsOf(history.state);
   return typeof sheet === "number" ? sheet : 0;
@@ -37,16 +35,13 @@ function keepInEntry(more: Partial<Place & { sheet: number }>) {
   }
 }
 
-/** Keeps in the entry that is shown where one is. */
 export const keepPlace = () => keepInEntry(placeNow());
 
-/** Keeps in the entry that is shown of which sheet it is. */
 export const keepSheet = (sheet: number) => keepInEntry({ sheet });
 
 const AGAIN_AFTER = 1000;
 let writing = 0;
 
-/** Gives up an address that is still to be written. */
 export const dropAddress = () => clearTimeout(writing);
 
 /** Puts an address into the history, a step as an entry of its own, a moment later if the browser refuses it. */
@@ -64,8 +59,7 @@ function writeAddress(address: string, isStep: boolean, sheet: number) {
 }
 
 /** Puts a state into the address if that has room for it, since a longer one isn't read.
- * @param isStep whether Back leads to what was before
- * @param sheet of the desk that it is of */
+ * @param isStep whether Back leads to what was before */
 export function writeState(state: State, isStep: boolean, sheet: number) {
   const isLong = !fitsAddress(state);
   if (isLong || part("alert").textContent === NOT_IN_ADDRESS) tell(part("alert"), isLong ? NOT_IN_ADDRESS : "");
@@ -81,7 +75,6 @@ export class WayBack {
     this.#place = place;
   }
 
-  /** Whether it still leads somewhere. */
   isOn() {
     return this.#place !== null;
   }
@@ -105,15 +98,12 @@ const BACK = "Back";
 
 /** A button that leads to a card, and from there back to where one was, as long as the card is in view. */
 export class WayTo {
-  #button: HTMLElement;
   #words = "";
   #name = "";
   /** How far the page was scrolled, where the button leads back. */
   #scroll: number | null = null;
 
-  /** @param heading which takes the focus */
-  constructor(button: HTMLElement, card: HTMLElement, heading: HTMLElement) {
-    this.#button = button;
+  constructor(private readonly button: HTMLElement, card: HTMLElement, heading: HTMLElement) {
     button.addEventListener("click", () => {
       const scroll = this.#scroll;
       this.#setScroll(scroll === null ? scrollY : null);
@@ -127,18 +117,17 @@ export class WayTo {
   /** Says what the button leads to; where that is nothing there is no button. @param name as it is said */
   show(words: string, name: string) {
     [this.#words, this.#name] = [words, name];
-    this.#button.hidden = words === "";
+    this.button.hidden = words === "";
     this.#setScroll(this.#scroll);
   }
 
   #setScroll(scroll: number | null) {
     this.#scroll = scroll;
-    this.#button.textContent = scroll === null ? this.#words : BACK;
-    this.#button.setAttribute("aria-label", scroll === null ? this.#name : BACK);
+    this.button.textContent = scroll === null ? this.#words : BACK;
+    this.button.setAttribute("aria-label", scroll === null ? this.#name : BACK);
   }
 }
 
-/** @param next the step that was gone on to, or "" */
 const nameOfSeen = (scramble: string, parts: Part[], next: string) =>
   JSON.stringify([scramble, bracketed(parts), next]);
 
@@ -154,8 +143,7 @@ export class Seen {
     if (taken.length === 1) this.#rows.set(nameOfSeen(scramble, all, ""), { key, list });
   }
 
-  /** From which row the last step was taken, and beside which list, if it alone is undone; or null.
-   * @param left what is left of the line */
+  /** From which row the last step was taken, and beside which list, if it alone is undone; or null. */
   rowBefore({ scramble, parts }: State, left?: Part[]) {
     const before = parts.slice(0, -1);
     const isUndone = parts.length > 0 && left?.length === before.length && bracketed(left) === bracketed(before);

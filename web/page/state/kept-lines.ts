@@ -1,11 +1,9 @@
 // The lines that are kept of a scramble, each known by its moves and by the reduction that it was kept with.
-import { bracketed } from "../shared/offered-steps.js";
+import { bracketed, type Part } from "../shared/offered-steps.js";
 import { MOST_ARE_KEPT } from "../shared/words.js";
 import { MOST_CANDIDATES } from "./limits.js";
 import type { Candidate, State } from "./address.js";
-import type { Moves as Part } from "../../module/shared/sides.js";
 
-/** @returns what it is known by */
 export const nameOf = ({ parts, next }: Pick<Candidate, "parts" | "next">) => [bracketed(parts), next].join(" ").trim();
 
 /** What is kept once a line is starred, or no longer if it was. */

@@ -3,14 +3,12 @@
 /** The first row of the list, or the first cell of the table. */
 export type Where = "list" | "table";
 
-/** How long it is waited for, in milliseconds. */
 const SOON_ENOUGH = 1000;
 
 export class NextFocus {
   /** Where it goes, and from where. */
   #next: { to: Where; from: Element | null } | null = null;
 
-  /** @param to undefined where it stays */
   set(to: Where | undefined) {
     this.#next = to ? { to, from: document.activeElement } : null;
   }
@@ -23,12 +21,10 @@ export class NextFocus {
     for (const use of ["pointerdown", "wheel"]) addEventListener(use, end, { capture: true, once: true });
   }
 
-  /** @returns whether it is to go there, at some time */
   waitsFor(to: Where): boolean {
     return this.#next?.to === to;
   }
 
-  /** @returns whether it is to go there now */
   take(to: Where): boolean {
     if (this.#next?.to !== to) return false;
     const { from } = this.#next;

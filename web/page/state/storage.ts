@@ -1,6 +1,5 @@
 // What the browser keeps for the page: texts by their names.
 
-/** @returns what it keeps under a name, or "" */
 export function stored(name: string) {
   try {
     return localStorage.getItem(name) ?? "";

@@ -1,0 +1,117 @@
+"""Lines that are kept beside each other: the cubes of both sides, how many steps follow on each, the first of the best, and notes."""
+from collections import Counter
+
+from best import LONGER, address_of
+from browser import Browser, Keys
+from program import program_answers
+from tally import Tally
+from wanted import SIDES, TITLES, Position, is_earlier
+from ways import line_of, title_of, ways
+
+# the moves of each on both sides: two orientations, one with its reduction, two that reach nothing
+EO, OTHER, DR, FIRST, LAST = (
+    ("", "B D R F2 B D"),
+    ("R' U F' R L", ""),
+    ("R' U F' R L D' F B' L2 D", ""),
+    ("D", ""),
+    ("U", ""),
+)
+KEPT = (
+    "&kept=inverse.B_D_R_F2_B_D;six%20moves,normal.R-_U_F-_R_L,normal.R-_U_F-_R_L~normal.D-_F_B-_L2_D,normal.D,normal.U"
+)
+SHOWN = """return all('#comparison-lines li').map((each) => ({
+    line: each.querySelector('h3').textContent, total: each.querySelector('.total').textContent,
+    letters: [...each.querySelectorAll('.net')].map((net) => [...net.querySelectorAll('.sticker')].map((one) => one.dataset.colour).join('')),
+    marks: [...each.querySelectorAll('figcaption')].map((one) => one.textContent),
+    bad: [...each.querySelectorAll('.net')].map((net) => net.querySelectorAll('.bad').length),
+    steps: [...each.querySelectorAll('tbody tr')].map((row) => [...row.children].map((cell) => cell.textContent)),
+    texts: [...each.querySelectorAll(':scope > p')].slice(1).map((one) => one.textContent) }))"""
+COMPARE = "[...document.querySelectorAll('#kept-list [data-control^=compare]')]"
+
+
+def counts_of(at: Position, step: str, side: str) -> str:
+    """How many solutions there are of the least length and of one move more, as the page writes it."""
+    solutions = at.solutions(step, side, 1)
+    lengths = Counter(len(moves.split()) for moves in solutions if not is_earlier(moves, set(solutions)))
+    return ", ".join(f"{length} ×{lengths[length]:,}" for length in sorted(lengths))
+
+
+def steps_of(at: Position) -> list[list[str]]:
+    """The steps that follow, each with what solvers choose it by left out, and its counts on both sides."""
+    reductions, orientations = at.open_steps()
+    steps = [] if not at.keeps(reductions or orientations) else reductions or orientations
+    return [[TITLES[step].split(" after")[0], *(counts_of(at, step, side) for side in SIDES)] for step in steps]
+
+
+def chooses(browser: Browser, *lines: tuple[str, str]) -> None:
+    """Has these lines compared, or no more."""
+    for line in map(line_of, lines):
+        browser.script(f"{COMPARE}.find((each) => each.dataset.control === 'compare ' + arguments[0]).click()", line)
+
+
+def beside_each_other(tally: Tally, browser: Browser) -> None:
+    """Each has its cube on both sides, what follows it there, the first of the best, and its note."""
+    browser.open(address_of(LONGER) + KEPT)
+    browser.wait_best()
+    browser.until("return all('#kept-list .total').every((each) => each.textContent !== '')")
+    tally.equal("one alone isn't compared", (chooses(browser, EO), browser.text("kept-compare")), (None, ""))
+    chooses(browser, OTHER, DR, LAST)
+    tally.equal("four are", browser.text("kept-compare"), "Compare 4")
+    browser.click("#kept-compare")
+    tally.holds("they come", browser.until("return document.querySelector('#comparison').open"))
+    shown = {each["line"]: each for each in browser.script(SHOWN)}
+    tally.equal("each of them", set(shown), set(map(line_of, (EO, OTHER, DR, LAST))))
+    for made in (EO, OTHER, DR, LAST):
+        at, told = Position(LONGER, *made), shown[line_of(made)]
+        tally.equal(f"{made}: the cube on both sides", told["letters"], [at.letters(side) for side in SIDES])
+        tally.equal(f"{made}: all moves", told["total"], f"{at.in_all()} move{'' if at.in_all() == 1 else 's'}")
+        steps = [[" ".join(step.split()[:2]), *counts] for step, *counts in told["steps"]]
+        tally.equal(f"{made}: what follows on each side", steps, steps_of(at))
+        tally.equal(f"{made}: nothing is marked after a reduction alone", any(told["bad"]), made != DR)
+    inverted = program_answers(browser.program, ["invert"], [EO[1]])[0]
+    way = ways(f"0 ; {inverted} {LONGER} ; ; {EO[1]}")[0]
+    tally.equal(
+        "the first of the best, and the note",
+        shown[line_of(EO)]["texts"],
+        [f"First: {line_of(way.dr)}, {way.total} in all", "six moves"],
+    )
+    case = Position(LONGER, *EO).case(way.reduction)
+    tally.equal(
+        "its case is marked",
+        shown[line_of(EO)]["marks"],
+        [f"{side.title()} · {title_of(way)}: {case}" for side in SIDES],
+    )
+    tally.equal("after a reduction no step follows", shown[line_of(DR)]["texts"], ["No step follows.", "", ""])
+
+
+def chosen(tally: Tally, browser: Browser) -> None:
+    """No more than four are compared, the last that were chosen; a key closes them, and one leads on from one of them."""
+    pressed = (
+        f"return {COMPARE}.filter((each) => each.ariaPressed === 'true').map((each) => each.dataset.control.slice(8))"
+    )
+    browser.open(address_of(LONGER) + KEPT)
+    browser.wait_best()
+    browser.until("return all('#kept-list .total').every((each) => each.textContent !== '')")
+    chooses(browser, FIRST, EO, OTHER, DR, LAST)
+    wanted = sorted(map(line_of, (EO, OTHER, DR, LAST)))
+    tally.equal("the last four", sorted(browser.script(pressed)), wanted)
+    chooses(browser, DR, LAST)
+    tally.equal(
+        "two",
+        (sorted(browser.script(pressed)), browser.text("kept-compare")),
+        (sorted(map(line_of, (EO, OTHER))), "Compare 2"),
+    )
+    browser.script("part('kept-compare').focus()")
+    browser.press(Keys.ENTER)
+    tally.holds("they come by keys", browser.until("return document.querySelector('#comparison').open"))
+    browser.press(Keys.ESCAPE)
+    tally.equal("a key closes them, and the focus is back", browser.focused(), "kept-compare")
+    browser.click("#kept-compare")
+    tally.holds("they come again", browser.until("return document.querySelector('#comparison').open"))
+    browser.walk(
+        tally,
+        "one leads on",
+        ("script", "document.querySelector('#comparison-lines button').click()", {}),
+        ("comes", "steps", 1, {"comparison?": False}),
+    )
+    tally.holds("it is one of them", browser.text("bracketed") in map(line_of, (EO, OTHER)))

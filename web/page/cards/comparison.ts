@@ -1,0 +1,60 @@
+// Lines that are kept, two to four beside each other: the nets of both sides with what is left to do, how many steps
+// follow on each, and the first of the best.
+import { button, counted, element, part } from "../shared/element.js";
+import { SIDES, bracketed, stateOf, stepNamed, type Part, type Side } from "../shared/offered-steps.js";
+import { showMarked } from "./cube.js";
+import { emptyNet } from "./net.js";
+import { caseOfStep } from "./step-table.js";
+import type { Compared, Counts } from "../answers/compare.js";
+import type { View } from "../answers/examine.js";
+
+export const MOST_COMPARED = 4;
+
+export type ComparedLine = { parts: Part[]; note: string; goOn: () => void };
+
+const NAMES = { normal: "Normal", inverse: "Inverse" };
+
+function netOf(side: Side, view: View, choice: string) {
+  const net = emptyNet();
+  const words = showMarked(net, side, view, choice);
+  return element("figure", {}, net, element("figcaption", {}, `${NAMES[side]}${words}`));
+}
+
+/** Such as `8 ×4, 9 ×31`. */
+const wordsOf = (counts: Counts) => [...counts].flatMap(([length, count], at) => [at === 0 ? "" : ", ",
+  element("span", { class: "together" }, `${length} ×${count.toLocaleString("en")}`)]);
+
+function followingOf({ steps, views: { normal: { facts } } }: Compared) {
+  if (steps.length === 0) return element("p", { class: "note" }, "No step follows.");
+  const head = SIDES.map((side) => element("th", { scope: "col" }, NAMES[side]));
+  const rows = steps.map(({ step, counts }) => element("tr", {},
+    element("th", { scope: "row" }, stateOf(step), element("small", {}, ` ${caseOfStep(facts, step)}`)),
+    ...SIDES.map((side) => element("td", {}, ...wordsOf(counts[side])))));
+  return element("table", {},
+    element("thead", {}, element("tr", {}, element("td"), ...head)), element("tbody", {}, ...rows));
+}
+
+function itemOf({ parts, note, goOn }: ComparedLine, compared: Compared) {
+  const { views, first, total } = compared;
+  const choice = first === null ? "" : stateOf(stepNamed((first.eo ?? first.dr).step));
+  const then = first === null ? []
+    : ["First: ", element("span", { class: "moves" }, first.line), `, ${first.total} in all`];
+  const close = () => {
+    part("comparison").close();
+    goOn();
+  };
+  return element("li", {},
+    element("h3", { class: "moves" }, bracketed(parts)),
+    element("p", { class: "total" }, counted(total, "move")),
+    element("div", { class: "nets" }, ...SIDES.map((side) => netOf(side, views[side], choice))),
+    followingOf(compared),
+    element("p", {}, ...then),
+    element("p", { class: "note" }, note),
+    button("Go on", { class: "quiet", "aria-label": `Go on: ${bracketed(parts)}`, click: close }));
+}
+
+/** Shows lines beside each other, until that is closed. */
+export function compare(lines: ComparedLine[], told: Compared[]) {
+  part("comparison-lines").replaceChildren(...lines.map((line, at) => itemOf(line, told[at])));
+  part("comparison").showModal();
+}
