@@ -118,20 +118,26 @@ impl<'a, A: Allocator> FirstSteps<'a, A> {
         Ok(self.admitted.longest() > wish.to.get())
     }
 
-    /// Takes those after the orientation on an axis, if it is asked for.
-    fn take_after(&mut self, axis: Axis, wish: &Wish, looks: &mut Looks) -> Result<bool, Cut>
+    /// Takes those after the orientation on an axis, if it holds and is asked for.
+    fn take_after(
+        &mut self,
+        axis: Axis,
+        reached: u16,
+        wish: &Wish,
+        looks: &mut Looks,
+    ) -> Result<bool, Cut>
         ensures most { looks.new.most ≡ looks.old.most }
         ensures room { Keeps self.old self.new }
     {
         let Some(on_axis) = self.tables.on(axis) else {
             return Ok(false);
         };
-        if !wish.axes.has(axis) {
+        if !wish.axes.has(axis) || !holds(reached, axis) {
             return Ok(false);
         }
         let first = self.take_reductions(on_axis.first, wish, looks)?;
         let second = self.take_reductions(on_axis.second, wish, looks)?;
-        Ok(first || second)
+        Ok(first | second)
     }
 
     /// Takes those after each of the orientations that hold.
@@ -141,9 +147,7 @@ impl<'a, A: Allocator> FirstSteps<'a, A> {
     {
         let mut next = false;
         for axis in [Axis::Fb, Axis::Rl, Axis::Ud] {
-            if holds(reached, axis) {
-                next = self.take_after(axis, wish, looks)? || next;
-            }
+            next |= self.take_after(axis, reached, wish, looks)?;
         }
         Ok(next)
     }
