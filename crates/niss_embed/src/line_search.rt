@@ -25,7 +25,7 @@ pub use after::solve_after;
 use niss_moves::{LineReader, LineText, Turn};
 use niss_search::laws::first_is_least;
 use niss_search::{
-    Limit, Meter, Outcome, Position, Sink, Stopped, Tables, TurnPath, search, search_within,
+    Limit, Meter, Outcome, Position, Sink, Stopped, Tables, TurnPath, search_within,
 };
 use niss_shell::{LineFault, MOST_BYTES, set_solution, start_position};
 use std::alloc::Allocator;
@@ -169,8 +169,7 @@ fn begin<A: Allocator>(tables: &Tables<A>, line: &[u8]) -> Result<Position, Line
     start_position(tables, moves).ok_or(LineFault::NoStart(tables.step()))
 }
 
-/// Searches as `search_within` of `niss_search`, within bounds; the greatest number of looks, which no search reaches in a
-/// lifetime, costs nothing.
+/// Searches as `search_within` of `niss_search`, within bounds.
 fn search_at_most<K: Sink, A: Allocator>(
     tables: &Tables<A>,
     position: &Position,
@@ -205,13 +204,6 @@ fn search_at_most<K: Sink, A: Allocator>(
     ensures spent { HasSpent is_cut_in bounds.most_nodes tables.now (capped looks.new) result }
 {
     let mut path = TurnPath::new(bounds.limit);
-    if bounds.most_nodes == u64::MAX {
-        let found = search(tables, position, bounds.slack, &mut path, looks, sink);
-        return match found {
-            Ok(outcome) => Ok(outcome),
-            Err(fault) => Err(Stopped::Refused(fault)),
-        };
-    }
     let most = u128::from(bounds.most_nodes);
     search_within(tables, position, bounds.slack, &mut path, looks, sink, most)
 }

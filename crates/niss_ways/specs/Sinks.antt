@@ -2,8 +2,7 @@
 use Rattle.std.specs.Prelude.{◌≡◌, ℕ, List}
 use Rattle.niss_ways.specs.Rooms.{Grows}
 use Rattle.niss_ways.specs.Truth.{Origin}
-use Rattle.niss_ways.specs.declared.orientations.Orientations.{Orientations}
-use Rattle.niss_ways.specs.declared.reductions.Reductions.{Reductions}
+use Rattle.niss_ways.specs.declared.first_steps.FirstSteps.{FirstSteps}
 use Rattle.niss_ways.specs.declared.way.Way.{Way}
 
 -- Where one stands and how often may be looked stay, and the same room grows.
@@ -15,13 +14,10 @@ pub record KeepsRoom (old_start : Origin) (old_most old_name old_count : ℕ) (o
   pub grows : Grows old_start old_count old new_count new
 
 module _ {A : Type 0} where
-  abbrev pub KeepsOrientations : Orientations A → Orientations A → Type 0
-  KeepsOrientations a b =
+  abbrev pub Keeps : FirstSteps A → FirstSteps A → Type 0
+  Keeps a b =
       KeepsRoom a.start.now a.looks.most a.room.ghost_name a.count a.room.now b.start.now b.looks.most b.room.ghost_name b.count b.room.now
 
   -- The same, with other looks.
-  abbrev pub KeepsRows : Orientations A → Orientations A → Type 0
+  abbrev pub KeepsRows : FirstSteps A → FirstSteps A → Type 0
   KeepsRows a b = KeepsRoom a.start.now 0 a.room.ghost_name a.count a.room.now b.start.now 0 b.room.ghost_name b.count b.room.now
-
-  abbrev pub KeepsReductions : Reductions A → Reductions A → Type 0
-  KeepsReductions a b = KeepsRoom a.start.now 0 a.room.ghost_name a.count a.room.now b.start.now 0 b.room.ghost_name b.count b.room.now

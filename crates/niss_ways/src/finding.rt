@@ -3,8 +3,7 @@ ghost use Rattle.std.specs.Prelude.{◌≡◌, ◌≤◌, length, min};
 ghost use Rattle.niss_ways.specs.Asked.{is_among};
 ghost use Rattle.niss_ways.specs.Rooms.{Grows};
 
-use crate::orientations::find_orientations;
-use crate::reductions::find_reductions;
+use crate::first_steps::{find_orientations, find_reductions};
 use crate::start::Start;
 use crate::tables::WayTables;
 use crate::way::Way;

@@ -14,15 +14,14 @@
 mod admitted;
 mod counting;
 mod finding;
+mod first_steps;
 mod following;
 mod last_turns;
 mod listing;
 mod looks;
 mod made;
 mod nearest;
-mod orientations;
 mod oriented;
-mod reductions;
 mod reductions_after;
 mod rows;
 mod solution;
