@@ -19,6 +19,9 @@ _IS_OF_SCRAMBLE, _IS_STEP = (bytes(kind == wanted for kind in range(256)) for wa
 _GROUP = attrgetter("group")
 # the bytes of a line that say what it is, whether it is of the solution, whether it has a head, and what its doubt is
 _BYTES = (0, 1, 2, 5)
+# of the numbers of eight bytes that a line is, how many there are, and which of them say its attempt, where it begins,
+# where its head ends, and where its doubt is
+_NUMBERS, _ATTEMPT, _BEGIN, _HEAD_END, _DOUBT_AT = TEXT_LINE.size // 8, 1, 3, 4, 10
 # the white space of the web's scripts
 _WHITE = (
     "\n\t\v\f\r \u00a0\u1680\u2000\u2001\u2002\u2003\u2004\u2005\u2006\u2007\u2008\u2009\u200a\u2028\u2029\u202f"
@@ -146,6 +149,7 @@ class Reader:
         self._kinds, self._are_solution, self._are_headed, self._doubts = (
             bytes(self._told[at :: TEXT_LINE.size]) for at in _BYTES
         )
+        self._numbers = self._told.cast("Q")
         # by whose they are
         self._moves: Dict[int, Moves] = {}
 
@@ -154,12 +158,12 @@ class Reader:
         told = TEXT_LINE.iter_unpack(self._told[TEXT_LINE.size * begin : TEXT_LINE.size * end])
         return [TextLine._make((at, *line)) for at, line in enumerate(told, begin) if line[0] or line[2]]
 
-    def _line(self, at: int) -> TextLine:
-        return TextLine(at, *TEXT_LINE.unpack_from(self._room, TEXT_LINE.size * at))
+    def _number(self, at: int, which: int) -> int:
+        return self._numbers[_NUMBERS * at + which]
 
     def attempts(self, begin: int, end: int) -> List[Tuple[int, int]]:
         """Returns from which line to which each attempt reaches among some lines that has a scramble."""
-        numbers = self._told.cast("B").cast("Q")[1 :: TEXT_LINE.size // 8][begin:end].tolist()
+        numbers = self._numbers[_ATTEMPT::_NUMBERS][begin:end].tolist()
         firsts = (at for at, is_first in enumerate(map(ne, numbers, numbers[1:]), begin + 1) if is_first)
         begins = [begin, *firsts, end]
         return [it for it in zip(begins, begins[1:]) if self._kinds.find(SCRAMBLE, *it) >= 0]
@@ -212,10 +216,7 @@ class Reader:
     def name(self, begin: int, end: int) -> str:
         """Returns the first head among the lines from one to another, or nothing."""
         at = self._are_headed.find(1, begin, end)
-        if at < 0:
-            return ""
-        line = self._line(at)
-        return self.words(line.begin, line.head_end)
+        return self.words(self._number(at, _BEGIN), self._number(at, _HEAD_END)) if at >= 0 else ""
 
     def _label(self, line: TextLine) -> str:
         return self.words(line.label_begin, line.label_end)
@@ -258,7 +259,7 @@ class Reader:
         doubts = self._doubts[begin:end].lstrip(b"\0")
         if not doubts:
             return None
-        return AttemptDoubt(_DOUBTS[doubts[0]], self.place(self._line(end - len(doubts)).doubt_at))
+        return AttemptDoubt(_DOUBTS[doubts[0]], self.place(self._number(end - len(doubts), _DOUBT_AT)))
 
 
 class Found(NamedTuple):

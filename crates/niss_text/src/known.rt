@@ -55,7 +55,7 @@ fn put_part(parts: &mut [KnownPart], count: usize, part: KnownPart)
     }
 }
 
-/// The lowest number that is one less than that of a head, and else the highest number of all.
+/// The scramble of which a head has this number, from 0, or the highest number of all if it has none.
 fn scramble_of_number(number: Option<usize>) -> usize {
     match number {
         Some(number) if number > 0 => number - 1,
@@ -122,7 +122,8 @@ impl Reading {
     }
 }
 
-/// Reads the parts of a text of which that many lines were told, and writes the lines of each in their place.
+/// Reads the parts of a text of which that many lines were told, and writes the lines of each after those of the one
+/// before: they are no more than were told of it, so none stands over what was told of the next part.
 fn read_parts(
     text: &[u8],
     count: usize,
@@ -186,8 +187,8 @@ fn assign(parts: &mut [KnownPart], is_in_order: bool, counts: &mut [u64])
 /// Tells of the parts of a text that has only solutions, of as many scrambles that are known as there are counts, and
 /// of each line of these what it is after a scramble, in as many attempts as a part has: the first one is the solution.
 /// A part is of the scramble of its number, if no other one has that; of as many parts as scrambles without any number
-/// each is of the scramble in its place. As many lines and parts as the text has bytes are room enough; the counts are
-/// written in any case.
+/// each is of the scramble in its place. As many lines and parts as the text has bytes are room enough. What stood in the
+/// counts says nothing, nor what stands there then.
 #[tactic(auto, using(crate::proofs::LineLemmas::takes_further))]
 pub fn known_lines(
     text: &[u8],

@@ -57,8 +57,11 @@ const OF_STEP = 3;
 /** Of which of some lines moves are asked for, by the module's numbers. */
 export const MOVES_OF = { scramble: 0, steps: 1, solution: 2, eachStep: 3 };
 
-/** Which lines have such, in the same order, by what is told and where that of a line stands. */
+/** @param told of all lines
+ * @param at where that of the line stands */
 const isStepLine = (told: Uint8Array, at: number) => LINE_READ.kind(told, at) === OF_STEP;
+
+/** Which lines have such, in the same order, by what is told. */
 const IS_WANTED: ((told: Uint8Array, at: number) => boolean)[] = [
   (told, at) => LINE_READ.kind(told, at) === OF_SCRAMBLE, isStepLine,
   (told, at) => isStepLine(told, at) && LINE_READ.solution(told, at) === 1, isStepLine,

@@ -147,14 +147,9 @@ export class WrittenText {
     return this.#units === null ? byte : this.#units[byte];
   }
 
-  /** What stands from one byte to another. */
-  cut(begin: number, end: number) {
-    return this.#text.slice(this.unit(begin), this.unit(end));
-  }
-
-  /** The same without white space around it. */
+  /** What stands from one byte to another, without white space around it. */
   part(begin: number, end: number) {
-    return this.cut(begin, end).trim();
+    return this.#text.slice(this.unit(begin), this.unit(end)).trim();
   }
 
   /** @returns a line that was written of the text in units, and the unit of each of its own */
