@@ -75,7 +75,6 @@ export type AttemptCheck = {
 /** To one line or more of a call, but for runs. */
 export type OneReply = Answer | LineReply | Seen | SolveReply | FoundParts | BestReply | OfTwo;
 
-/** What the lines are called of calls that take two. */
 const NAMES_OF_CHECK = ["scramble", "solution"];
 const NAMES_OF_BEST = ["scramble", "moves so far"];
 
@@ -149,7 +148,6 @@ function cutOr<Value>(status: number, cut: Telling, value: Value & { cut?: true 
   return value;
 }
 
-/** @returns the solutions of a step, on the sides that are asked for */
 export function solutionsIn(reply: SolveReply | FoundParts | NoValue, { cut }: { cut: Telling }): any {
   const seen = withValue(reply);
   if ("out" in seen) {

@@ -21,7 +21,6 @@ type Answer<Call extends OneCall> = (instance: Instance, request: RequestOf<Call
 
 const inMemory = (instance: Instance, { text }: { text: string }) => new TextInMemory(instance, new WrittenText(text));
 
-/** How each request is answered. */
 const REPLIES: { [Call in OneCall]: Answer<Call> } = {
   invert: (instance, { line }) => rewritten(instance, "nissy_invert", line),
   unniss: (instance, { line }) => rewritten(instance, "nissy_unniss", line),

@@ -57,7 +57,6 @@ export function written<Refused extends NoValue>(
   return { status: STATUS.done, out: instance.memory.text(places[given.length], length) };
 }
 
-/** A call that reads a line and writes another. */
 export const rewritten = (instance: Instance, name: string, line: Text): LineReply =>
   written(instance, name, [{ text: line }], () => refusal(instance, line));
 

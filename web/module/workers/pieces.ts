@@ -18,7 +18,6 @@ const GROWTH = 4;
 const QUICK_LINES = 64;
 const PIECES = 2;
 
-/** From a line up to another one. */
 export type Piece = { begin: number; end: number };
 
 export class Pieces {
@@ -32,8 +31,7 @@ export class Pieces {
   #done = 0;
   #isQuick = false;
 
-  /** @param workers how many share the pieces
-   * @param one reads a reply */
+  /** @param workers how many share the pieces */
   constructor(private request: AllRequest, private workers: number, one: ReadOne) {
     this.#told = new ToldLines(request, one);
   }

@@ -69,10 +69,8 @@ const askAll = (pieces: Pieces, ask: Ask, tell: Follow) => new Promise<void>((wh
   Promise.resolve().then(follow).catch(failed);
 });
 
-/** Engines in several workers. What `Nissy` throws, the promises of their calls are rejected with; so is each whose
- * worker ends. */
+/** Engines in several workers. The promise of each call whose worker ends is rejected. */
 export class WorkerPool extends LaterCalls<"pool"> {
-  /** How many workers there are. */
   readonly size: number;
 
   constructor(workers: number, module: SentModule, newWorker: NewWorker) {
