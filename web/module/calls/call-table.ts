@@ -23,7 +23,6 @@ export type Row = {
   isFollowed?: boolean;
 };
 
-/** A call on a line that is rewritten. */
 const rewriting = (call: Rewriting, read: Row["read"] = lineIn): Row =>
   ({ takes: 1, request: (line) => lineRequest(call, line), read });
 

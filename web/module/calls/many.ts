@@ -21,7 +21,6 @@ export type AllRequest<Each extends OfEach = OfEach> = {
  * and beside them the other replies, each with its place. */
 export type AllReply = { count: number; size: number; values: Uint8Array; others: [at: number, reply: OneReply][] };
 
-/** Reads a reply to a line of many. */
 export type ReadOne = (reply: any, each: any) => unknown;
 
 /** What becomes of the faults of many lines: undefined has each in the place of an answer. */
@@ -50,7 +49,6 @@ export const PAIRS_OF_LINES: Kind = {
   },
 };
 
-/** @param each what is asked of each */
 export function allRequest(each: OfEach, { name, one }: Kind, values: unknown, options: unknown = {}): AllRequest {
   if (!Array.isArray(values)) throw new TypeError(`the ${name} are no array`);
   const faults = toldBy(options, "faults", "value");
@@ -70,7 +68,6 @@ export class ToldLines {
   /** The first line of which an error is thrown. */
   #failed: { index: number; error: unknown } | null = null;
 
-  /** @param one reads a reply */
   constructor(private request: AllRequest, private one: ReadOne) {
     this.#told = new Array(request.lines.length);
   }

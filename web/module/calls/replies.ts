@@ -75,7 +75,6 @@ export type AttemptCheck = {
 /** To one line or more of a call, but for runs. */
 export type OneReply = Answer | LineReply | Seen | SolveReply | FoundParts | BestReply | OfTwo;
 
-/** What the lines are called of calls that take two. */
 const NAMES_OF_CHECK = ["scramble", "solution"];
 const NAMES_OF_BEST = ["scramble", "moves so far"];
 
@@ -149,7 +148,6 @@ function cutOr<Value>(status: number, cut: Telling, value: Value & { cut?: true 
   return value;
 }
 
-/** @returns the solutions of a step, on the sides that are asked for */
 export function solutionsIn(reply: SolveReply | FoundParts | NoValue, { cut }: { cut: Telling }): any {
   const seen = withValue(reply);
   if ("out" in seen) {
@@ -190,31 +188,22 @@ const caseAt = (bytes: Uint8Array, axis: number) =>
 
 const [FB, RL, UD] = AXES.map((_, at) => FACTS_ANSWER.at.axes + at * AXIS_FACTS.bytes);
 
-/** The facts in the struct at a place. One function makes all objects of a line: so those of many lines take the host
- * half as long. */
 function factsFrom({ answer: bytes, at }: Seen): Facts {
   const { solved, moves, cleanMoves, holds } = FACTS_ANSWER.read;
-  const { badEdgePlaces: edges, badCornerPlaces: corners, misplacedEdgePlaces: misplaced } = AXIS_FACTS.read;
-  const fb = at + FB;
-  const rl = at + RL;
-  const ud = at + UD;
+  const { badEdgePlaces, badCornerPlaces, misplacedEdgePlaces } = AXIS_FACTS.read;
+  const onAxes = <Told>(tell: (axis: number) => Told) => ({ fb: tell(at + FB), rl: tell(at + RL), ud: tell(at + UD) });
   return {
     solved: solved(bytes, at) === 1,
     moves: moves(bytes, at),
     cleanMoves: cleanMoves(bytes, at),
-    badEdges: { fb: edgesIn(edges(bytes, fb)), rl: edgesIn(edges(bytes, rl)), ud: edgesIn(edges(bytes, ud)) },
-    badCorners: {
-      fb: cornersIn(corners(bytes, fb)), rl: cornersIn(corners(bytes, rl)), ud: cornersIn(corners(bytes, ud)),
-    },
-    misplacedEdges: {
-      fb: edgesIn(misplaced(bytes, fb)), rl: edgesIn(misplaced(bytes, rl)), ud: edgesIn(misplaced(bytes, ud)),
-    },
-    case: { fb: caseAt(bytes, fb), rl: caseAt(bytes, rl), ud: caseAt(bytes, ud) },
+    badEdges: onAxes((axis) => edgesIn(badEdgePlaces(bytes, axis))),
+    badCorners: onAxes((axis) => cornersIn(badCornerPlaces(bytes, axis))),
+    misplacedEdges: onAxes((axis) => edgesIn(misplacedEdgePlaces(bytes, axis))),
+    case: onAxes((axis) => caseAt(bytes, axis)),
     holds: stepsIn(holds(bytes, at)),
   };
 }
 
-/** What is told of a solution in the struct at a place. */
 const checkFrom = ({ answer: bytes, at }: Seen): Check => ({
   solved: CHECK_ANSWER.read.solved(bytes, at) === 1,
   moves: CHECK_ANSWER.read.moves(bytes, at),

@@ -157,7 +157,6 @@ export const checkRequest = (scramble: unknown, solution: unknown): RequestOf<"c
   solution: takenLine(solution, "the solution"),
 });
 
-/** A text as solvers write it. */
 function writtenText(text: unknown) {
   const written = stringOf(text, "the text");
   takenLine(written, "the text");

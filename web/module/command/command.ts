@@ -4,8 +4,7 @@ import process from "node:process";
 import { countIn, withValue, type Seen } from "../calls/replies.js";
 import { MOST_TURNS, countRequest, runRequest, solveRequest } from "../calls/requests.js";
 import { Instance } from "../engine/instance.js";
-import { counted, solvedBytes } from "../engine/line-calls.js";
-import { runIn } from "../engine/runs.js";
+import { counted, runIn, solvedBytes } from "../engine/line-calls.js";
 import { STATUS } from "../engine/status.js";
 import { LINE_FEED, MOST_INPUT } from "../shared/bytes.js";
 import { NissyFault, inLine } from "../shared/faults.js";
@@ -16,11 +15,9 @@ import { answerInput, split } from "./input-lines.js";
 import { OUT_OF_MEMORY, Stop, TOO_LONG } from "./stop.js";
 import { readSome, writeAll } from "./streams.js";
 
-/** Some solutions of a list. */
 type Piece = Seen & { out: Uint8Array };
 
-/** A search, and the words of the line that it is asked for: if there are none, it is asked for each line of the input.
- */
+/** A search, and the words of the line that it is asked for: if there are none, it is asked for each of the input. */
 type Search = { command: string; step: string; limit: number; slack: number; words: string[] };
 
 const INPUT = 0;
@@ -66,7 +63,6 @@ function run(instance: Instance, words: string[], input: Uint8Array, first = 1):
   return out.length;
 }
 
-/** Writes how many solutions a line has. */
 function writeCount(instance: Instance, { step, limit }: Search, line: Uint8Array) {
   const request = countRequest(step, line, { limit });
   const { length, solutions, nodes } = countIn(counted(instance, request), request);
@@ -84,8 +80,7 @@ function writePiece(piece: Piece) {
   write(pieceRoom.subarray(0, hasMore(piece) ? out.length : out.length + 1));
 }
 
-/** The moves of the last of some solutions, of which each has a line such as `F B' (2)`, or `(0)` if no move is needed.
- */
+/** The moves of the last of some solutions, which has a line such as `F B' (2)`, or `(0)` if no move is needed. */
 const lastMoves = (out: Uint8Array) =>
   textIn(out.subarray(out.lastIndexOf(LINE_FEED, out.length - 2) + 1, out.lastIndexOf(BRACKET))).trimEnd();
 
@@ -104,7 +99,6 @@ function writeSolutions(instance: Instance, { step, limit, slack }: Search, line
   }
 }
 
-/** The search that these words ask for, if they ask for one. */
 function searchOf([command, step, ...rest]: string[]): Search | undefined {
   const count = SEARCHES.get(command);
   const numbers = rest.slice(0, count);
@@ -128,7 +122,6 @@ function searchLines(instance: Instance, search: Search, lines: Uint8Array, firs
   }
 }
 
-/** The words of a line as an input that has it. */
 function inputOf(words: string[]) {
   const input = encoded(`${words.join(" ")}\n`);
   if (input.length > MOST_INPUT) throw Stop.because(TOO_LONG);
@@ -162,7 +155,6 @@ async function started(): Promise<Instance> {
   }
 }
 
-/** @returns what the command says of it */
 function stopOf(error: unknown): Stop {
   if (error instanceof Stop) return error;
   if (error instanceof NissyFault) return new Stop(STATUS.fault, `nissy: ${error.message}\n`);
@@ -171,7 +163,6 @@ function stopOf(error: unknown): Stop {
   return Stop.because(`the engine broke off: ${(error as Error).message}`);
 }
 
-/** @returns the status */
 async function main(): Promise<number> {
   try {
     obey(await started(), process.argv.slice(2));

@@ -8,7 +8,6 @@ const BLOCK = 4_096;
 /** Answers lines, each with its line feed but the last one of an input, of which the first has this number. */
 export type Answering = (lines: Uint8Array, first: number) => void;
 
-/** @returns how many line feeds they have */
 function countOf(lines: Uint8Array): number {
   let count = 0;
   for (const byte of lines) if (byte === LINE_FEED) count += 1;

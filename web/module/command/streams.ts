@@ -33,7 +33,6 @@ export function readSome(stream: number, buffer: Uint8Array): number {
   }
 }
 
-/** Writes all of these bytes. */
 export function writeAll(stream: number, bytes: Uint8Array) {
   for (let at = 0; at < bytes.length; ) {
     const taken = whenReady(() => writeSync(stream, bytes, at, bytes.length - at));

@@ -6,10 +6,9 @@ import { WrittenText, type PlainLine } from "../text/written.js";
 import { EngineMissing } from "../shared/faults.js";
 import { bestOf } from "./best-search.js";
 import { Instance } from "./instance.js";
-import { checked, counted, factsOf, lineAfterOf, rewritten, solved, written } from "./line-calls.js";
+import { checked, counted, factsOf, lineAfterOf, rewritten, runIn, solved, written } from "./line-calls.js";
 import { answerAll } from "./many-lines.js";
 import { countedOverSides, solvedOverSides } from "./over-sides.js";
-import { runIn } from "./runs.js";
 import { compiled, type ModuleSource } from "./source.js";
 import type { CountOfSides, OneReply } from "../calls/replies.js";
 import type { Request, RequestOf } from "../calls/requests.js";
@@ -21,7 +20,6 @@ type Answer<Call extends OneCall> = (instance: Instance, request: RequestOf<Call
 
 const inMemory = (instance: Instance, { text }: { text: string }) => new TextInMemory(instance, new WrittenText(text));
 
-/** How each request is answered. */
 const REPLIES: { [Call in OneCall]: Answer<Call> } = {
   invert: (instance, { line }) => rewritten(instance, "nissy_invert", line),
   unniss: (instance, { line }) => rewritten(instance, "nissy_unniss", line),

@@ -1,11 +1,9 @@
-// An instance of the module: how it is called, its memory, where the free part of that begins, and the tables that stay
-// there.
+// An instance of the module: how it is called, and its memory with the tables that stay there.
 import type { Text } from "../shared/bytes.js";
 import { HEAD, struct, structOf, type Reading } from "../shared/structs.js";
 import { InstanceMemory, aligned, roomFor } from "./memory.js";
 import { STATUS } from "./status.js";
 
-/** What the module exports. */
 export type Exports = { [name: string]: any };
 
 /** What a call is given after the place of its answer, as the headers have it: a text, by its place and its length;
@@ -94,7 +92,6 @@ export class Instance {
     return bytes;
   }
 
-  /** A number of the module's answer. */
   answered(read: Reading) {
     return read(this.memory.all, this.answer);
   }

@@ -1,14 +1,15 @@
-// The calls of the module on one line each, or two, and those that read none: what they are given, and what their
-// answer is read as.
+// The calls of the module on one line each, or two, and those that read none, runs too: what they are given, and what
+// their answer is read as.
 import { MOST_WIDE, characterAt, type Text } from "../shared/bytes.js";
 import {
-  CHECK_ANSWER, FACTS_ANSWER, LINE_ANSWER, LINE_ROOM, SEARCH_ANSWER, SOLUTION,
+  CHECK_ANSWER, ERROR_ROOM, FACTS_ANSWER, LINE_ANSWER, LINE_ROOM, RUN_ANSWER, SEARCH_ANSWER, SOLUTION,
 } from "../shared/layout.js";
 import { HEAD, type Struct } from "../shared/structs.js";
+import { textIn } from "../shared/utf8.js";
+import { ROOM, type Given, type Instance } from "./instance.js";
 import { START_FAULT, STATUS, hasValue } from "./status.js";
 import type { RequestOf, Search, SolveRequest } from "../calls/requests.js";
-import type { LineReply, NoValue, OfTwo, Seen, SolveBytesReply, SolveReply } from "../calls/replies.js";
-import type { Given, Instance } from "./instance.js";
+import type { Answer, LineReply, NoValue, OfTwo, Seen, SolveBytesReply, SolveReply } from "../calls/replies.js";
 
 /** The rooms for solutions, of which the next one is taken if one was too small: they are searched for again then. */
 const SOLUTION_ROOMS = [65_536, 4 * 1_048_576, 256 * 1_048_576];
@@ -57,7 +58,6 @@ export function written<Refused extends NoValue>(
   return { status: STATUS.done, out: instance.memory.text(places[given.length], length) };
 }
 
-/** A call that reads a line and writes another. */
 export const rewritten = (instance: Instance, name: string, line: Text): LineReply =>
   written(instance, name, [{ text: line }], () => refusal(instance, line));
 
@@ -112,4 +112,55 @@ export function factsOf(instance: Instance, { line }: RequestOf<"facts">): Seen 
 export function checked(instance: Instance, { scramble, solution }: RequestOf<"check">): Seen | OfTwo {
   instance.ask("nissy_check", [{ text: scramble }, { text: solution }]);
   return hasValue(instance.status) ? seen(instance, CHECK_ANSWER) : refusalOfTwo(instance, scramble, solution);
+}
+
+/** How many bytes are lent for the tables of a run at first: those of any step fit, so that a page takes the same
+ * memory from call to call. Longer words take more. */
+const FIRST_LENT = 3 * 1_048_576;
+const MOST_LENT = 1_024 * 1_048_576;
+
+/** The room for the output of a run at first, beside eight bytes for each byte of the input, and the greatest. */
+const FIRST_ROOM = 65_536;
+const MOST_ROOM = 512 * 1_048_576;
+
+/** By how much either grows if it was too small. */
+const GROWTH = 8;
+
+const OUT_OF_MEMORY = "nissy: out of memory\n";
+
+/** Makes a run, and makes it again with more as long as it had too little, up to the most. */
+function withEnough(
+  first: number, most: number, run: (amount: number) => Answer, hadTooLittle: (answer: Answer) => boolean,
+): Answer {
+  for (let amount = first; ; amount = Math.min(amount * GROWTH, most)) {
+    const answer = run(amount);
+    if (amount >= most || !hadTooLittle(answer)) return answer;
+  }
+}
+
+const isRefusedMemory = (answer: Answer) => answer.status === STATUS.stopped && textIn(answer.err) === OUT_OF_MEMORY;
+
+/** @param room how many bytes the output may take
+ * @param lent how many the tables may take */
+function runOnce(instance: Instance, { words, input }: RequestOf<"run">, room: number, lent: number): Answer {
+  const { memory } = instance;
+  const given = [{ lent }, { text: words }, { text: input }, { room }, { room: ERROR_ROOM }];
+  const [lending, , , out, err] = instance.ask("nissy_run", given);
+  if (ROOM.read.size(memory.all, lending) !== lent) {
+    instance.isBroken = true;
+    throw new Error("the module kept memory that it was lent");
+  }
+  return {
+    status: instance.status,
+    out: memory.copy(out, instance.answered(RUN_ANSWER.read.outLength)),
+    err: memory.copy(err, instance.answered(RUN_ANSWER.read.errLength)),
+    full: instance.answered(RUN_ANSWER.read.outTooSmall) !== 0,
+  };
+}
+
+export function runIn(instance: Instance, request: RequestOf<"run">): Answer {
+  const withRoom = (size: number) =>
+    withEnough(FIRST_LENT, MOST_LENT, (lent) => runOnce(instance, request, size, lent), isRefusedMemory);
+  if (request.room !== undefined) return withRoom(request.room);
+  return withEnough(FIRST_ROOM + 8 * request.input.length, MOST_ROOM, withRoom, (answer) => answer.full);
 }

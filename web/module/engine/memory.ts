@@ -11,14 +11,11 @@ const MOST_BYTES = 65_536 * PAGE;
 /** Structs, and the memory for tables, stand at multiples of it. */
 const ALIGNMENT = 16;
 
-/** How many bytes a unit of a string takes at most. */
-const UNIT = 3;
-
 /** @returns the first place from this one on at which a part may stand */
 export const aligned = (place: number): number => place + ((ALIGNMENT - (place % ALIGNMENT)) % ALIGNMENT);
 
-/** @returns how many bytes it takes at most */
-export const roomFor = (line: Text): number => (typeof line === "string" ? UNIT : 1) * line.length;
+/** @returns how many bytes it takes at most: three for a unit of a string */
+export const roomFor = (line: Text): number => (typeof line === "string" ? 3 : 1) * line.length;
 
 export class InstanceMemory {
   /** All of it, until it grows: one that grew is another one for JavaScript. */
@@ -28,7 +25,6 @@ export class InstanceMemory {
     this.all = new Uint8Array(memory.buffer);
   }
 
-  /** Has the memory reach up to a place. It grows if it doesn't. */
   reach(end: number) {
     if (end > MOST_BYTES) throw new RangeError("no memory has so many bytes");
     const missing = Math.ceil((end - this.all.length) / PAGE);
@@ -36,7 +32,7 @@ export class InstanceMemory {
     if (this.memory.buffer !== this.all.buffer) this.all = new Uint8Array(this.memory.buffer);
   }
 
-  /** @returns so many numbers of eight bytes, one after another */
+  /** @returns so many numbers of eight bytes */
   longs(at: number, count: number): number[] {
     const view = new DataView(this.all.buffer, at, 8 * count);
     const numbers = new Array(count);

@@ -24,7 +24,6 @@ type FoundOfLength = FoundParts & { more: boolean; solutions: number };
 
 const SIDES_READ = SIDES_ANSWER.read;
 
-/** Asks the module for solutions of one length. */
 function foundOfLength(
   instance: Instance, { step, line, sides }: OverSides, { length, passed, rows, nodes, counts }: Piece,
 ): FoundOfLength | NoValue {

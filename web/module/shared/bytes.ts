@@ -9,7 +9,6 @@ export const MOST_INPUT = 16_777_216;
 /** The most lines or words of an array: a host ends the process if it fills an array of less than twice as many. */
 const MOST_VALUES = 67_108_864;
 
-/** The greatest number of 64 bits. */
 export const MOST_WIDE = 0xffff_ffff_ffff_ffffn;
 
 export const LINE_FEED = 10;
@@ -71,7 +70,6 @@ export function joinedBytes(pieces: readonly Uint8Array[]): Uint8Array {
   return bytes;
 }
 
-/** The words as the module takes them, each with a zero byte after it. */
 export function joinedWords(words: unknown): Uint8Array {
   if (!Array.isArray(words)) throw new TypeError("the words are no array");
   const listed = eachOf(words, (word, index) => bytesOf(word, `word ${index + 1}`));

@@ -47,7 +47,6 @@ export type Facts = {
   holds: readonly Step[];
 };
 
-/** What is told of a solution. */
 export type Check = {
   /** Its moves after the scramble's solve the cube, however it is held then. */
   solved: boolean;

@@ -56,13 +56,13 @@ export function withoutTraces<Made>(make: () => Made): Made {
 
 /** A search that was cut, since it would have looked at more positions than it might. */
 export class SearchCut extends Error {
+  override name = "SearchCut";
+
   /** @param count what it had counted until then
    * @param found the solutions that it had found, with which its list begins; null of a count or of the best
    * @param line of many, from 1; null if there was one */
   constructor(public count: Count, public found: Solution[] | null, public line: number | null = null) {
-    const text = `the search was cut after ${count.nodes} nodes`;
-    super(line === null ? text : `line ${line}: ${text}`);
-    this.name = "SearchCut";
+    super(`${placeInWords(line, null, "")}the search was cut after ${count.nodes} nodes`);
   }
 }
 

@@ -12,7 +12,6 @@ export type BestStep = OnSides<string> & { step: Step; moves: string; length: nu
  * only if it follows no orientation of its row. */
 export type BestReduction = BestStep & { lengths: OnSides<number | null> };
 
-/** What may follow the moves so far. */
 export type BestRow = {
   /** The clean turns of both sides in all, those of the moves so far counted too. */
   total: number;
@@ -61,7 +60,6 @@ function stepAt(bytes: Uint8Array, at: number): BestStep | null {
   return { step: STEPS[number], moves: bracketed([{ normal, inverse }]), normal, inverse, length, twins };
 }
 
-/** The way on whose row begins at a place. */
 function wayAt(bytes: Uint8Array, at: number): BestRow {
   const eo = stepAt(bytes, at + WAY.at.eo);
   const dr = stepAt(bytes, at + WAY.at.dr) as BestStep;

@@ -37,7 +37,6 @@ export class LaterCalls<Time extends When> {
     },
   });
 
-  /** An engine whose workers are started by the first calls. */
   constructor(module: SentModule, newWorker: NewWorker, workers = 1, private share = unshared) {
     this.#queue = new WorkerQueue(module, newWorker, workers);
   }
@@ -93,8 +92,8 @@ export class LaterCalls<Time extends When> {
 
 export interface LaterCalls<Time extends When> extends Calls<Time> {}
 
-/** The engine in a worker. Its calls are those of `Nissy`, and what these throw, the promises are rejected with. Each
- * may be given up by an `AbortSignal`: the tables of the steps are built anew after a call that ran. */
+/** The engine in a worker. Each call may be given up by an `AbortSignal`: the tables of the steps are built anew after
+ * one that ran. */
 export class WorkerCalls extends LaterCalls<"worker"> {
   /** Starts an engine. Rejects with `NoWebAssembly` if the host runs none, and with `EngineMissing` if the worker can't
    * be started. */

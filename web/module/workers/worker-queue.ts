@@ -35,7 +35,6 @@ const MOST_SENT = 2;
 const followsAtOnce = ({ call }: Asked, next: Asked) =>
   next.request.call === "all" && next.request.isPiece === true && next.call === call;
 
-/** @param error of the worker */
 const errorOf = ({ name, message }: Told["error"]): Error =>
   (name === "RangeError" ? new RangeError(message) : new EngineMissing(message));
 
@@ -100,8 +99,7 @@ export class WorkerQueue {
     queueMicrotask(() => this.#sendNext());
   }
 
-  /** Ends a worker.
-   * @returns what it had */
+  /** @returns what the worker had */
   #ended(seat: Seat): Asked[] {
     seat.worker?.terminate();
     seat.worker = null;
@@ -132,7 +130,6 @@ export class WorkerQueue {
     }
   }
 
-  /** @returns a worker that has the module */
   #started(seat: Seat): Started {
     // one that was ended while it loaded says nothing of the next one
     const isThisOne = () => worker === seat.worker;
