@@ -5,7 +5,7 @@ from best import LONGER, address_of
 from browser import Browser, Keys
 from program import program_answers
 from tally import Tally
-from wanted import SIDES, TITLES, Position, is_earlier
+from wanted import SIDES, TITLES, Position
 from ways import line_of, title_of, ways
 
 # the moves of each on both sides: two orientations, one with its reduction, two that reach nothing
@@ -31,8 +31,7 @@ COMPARE = "[...document.querySelectorAll('#kept-list [data-control^=compare]')]"
 
 def counts_of(at: Position, step: str, side: str) -> str:
     """How many solutions there are of the least length and of one move more, as the page writes it."""
-    solutions = at.solutions(step, side, 1)
-    lengths = Counter(len(moves.split()) for moves in solutions if not is_earlier(moves, set(solutions)))
+    lengths = Counter(len(moves.split()) for moves in at.listed(step, side, 1))
     return ", ".join(f"{length} ×{lengths[length]:,}" for length in sorted(lengths))
 
 
