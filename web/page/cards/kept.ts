@@ -253,7 +253,7 @@ export class KeptCandidates {
     try {
       const told = await this.calls.ask("compareLines", { scramble: this.#line, lines });
       compare(chosen.map(({ candidate, walk }) =>
-        ({ ...candidate, goOn: () => this.#goOn(candidate, walk) })), told);
+        ({ ...candidate, next: walk?.next ?? null, goOn: () => this.#goOn(candidate, walk) })), told);
     } catch (fault) {
       if (!(fault instanceof Stopped)) tell(part("alert"), unanswered(fault));
     }
