@@ -5,7 +5,7 @@ from best import LONGER, address_of
 from browser import Browser, Keys
 from program import program_answers
 from tally import Tally
-from wanted import SIDES, TITLES, Position, is_earlier
+from wanted import SIDES, TITLES, Position
 from ways import line_of, title_of, ways
 
 # the moves of each on both sides: two orientations, one with its reduction, two that reach nothing
@@ -16,9 +16,7 @@ EO, OTHER, DR, FIRST, LAST = (
     ("D", ""),
     ("U", ""),
 )
-KEPT = (
-    "&kept=inverse.B_D_R_F2_B_D;six%20moves,normal.R-_U_F-_R_L,normal.R-_U_F-_R_L~normal.D-_F_B-_L2_D,normal.D,normal.U"
-)
+KEPT = "&kept=inverse.B_D_R_F2_B_D;six%20moves,normal.R-_U_F-_R_L;;drud-eorl,normal.R-_U_F-_R_L~normal.D-_F_B-_L2_D,normal.D,normal.U"
 SHOWN = """return all('#comparison-lines li').map((each) => ({
     line: each.querySelector('h3').textContent, total: each.querySelector('.total').textContent,
     letters: [...each.querySelectorAll('.net')].map((net) => [...net.querySelectorAll('.sticker')].map((one) => one.dataset.colour).join('')),
@@ -31,8 +29,7 @@ COMPARE = "[...document.querySelectorAll('#kept-list [data-control^=compare]')]"
 
 def counts_of(at: Position, step: str, side: str) -> str:
     """How many solutions there are of the least length and of one move more, as the page writes it."""
-    solutions = at.solutions(step, side, 1)
-    lengths = Counter(len(moves.split()) for moves in solutions if not is_earlier(moves, set(solutions)))
+    lengths = Counter(len(moves.split()) for moves in at.listed(step, side, 1))
     return ", ".join(f"{length} ×{lengths[length]:,}" for length in sorted(lengths))
 
 
@@ -46,7 +43,10 @@ def steps_of(at: Position) -> list[list[str]]:
 def chooses(browser: Browser, *lines: tuple[str, str]) -> None:
     """Has these lines compared, or no more."""
     for line in map(line_of, lines):
-        browser.script(f"{COMPARE}.find((each) => each.dataset.control === 'compare ' + arguments[0]).click()", line)
+        browser.script(
+            f"{COMPARE}.find((each) => each.dataset.control.replace(/ dr.*/, '') === 'compare ' + arguments[0]).click()",
+            line,
+        )
 
 
 def beside_each_other(tally: Tally, browser: Browser) -> None:
@@ -54,7 +54,8 @@ def beside_each_other(tally: Tally, browser: Browser) -> None:
     browser.open(address_of(LONGER) + KEPT)
     browser.wait_best()
     browser.until("return all('#kept-list .total').every((each) => each.textContent !== '')")
-    tally.equal("one alone isn't compared", (chooses(browser, EO), browser.text("kept-compare")), (None, ""))
+    chooses(browser, EO)
+    tally.equal("one alone isn't compared", browser.text("kept-compare"), "")
     chooses(browser, OTHER, DR, LAST)
     tally.equal("four are", browser.text("kept-compare"), "Compare 4")
     browser.click("#kept-compare")
@@ -81,14 +82,14 @@ def beside_each_other(tally: Tally, browser: Browser) -> None:
         shown[line_of(EO)]["marks"],
         [f"{side.title()} · {title_of(way)}: {case}" for side in SIDES],
     )
+    kept = [f"{side.title()} · DR U/D: {Position(LONGER, *OTHER).case('ud')}" for side in SIDES]
+    tally.equal("of one that was kept with a reduction that is marked", shown[line_of(OTHER)]["marks"], kept)
     tally.equal("after a reduction no step follows", shown[line_of(DR)]["texts"], ["No step follows.", "", ""])
 
 
 def chosen(tally: Tally, browser: Browser) -> None:
     """No more than four are compared, the last that were chosen; a key closes them, and one leads on from one of them."""
-    pressed = (
-        f"return {COMPARE}.filter((each) => each.ariaPressed === 'true').map((each) => each.dataset.control.slice(8))"
-    )
+    pressed = f"return {COMPARE}.filter((each) => each.ariaPressed === 'true').map((each) => each.dataset.control.slice(8).replace(/ dr.*/, ''))"
     browser.open(address_of(LONGER) + KEPT)
     browser.wait_best()
     browser.until("return all('#kept-list .total').every((each) => each.textContent !== '')")

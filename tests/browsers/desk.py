@@ -19,7 +19,7 @@ PLACES = """const [kept, best] = ['kept', 'best'].map((name) => part(name).getBo
 LINES = """return all('#kept-list li').map((each) => [each.querySelector('.moves').textContent, each.querySelector('.note-field').value])"""
 TOPS = """return ['scramble-card', 'best', 'steps', 'cube', 'line'].map((name) => part(name).getBoundingClientRect())
     .map(({ left, top, width }) => [left, top, width])"""
-REMOVE = "#kept-list li:nth-child(%d) button:nth-of-type(2)"
+REMOVE = "#kept-list li:nth-child(%d) [data-control^=away]"
 
 
 def stands_beside(tally: Tally, browser: Browser) -> None:

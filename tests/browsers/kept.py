@@ -86,7 +86,7 @@ def keeps_in_address(tally: Tally, browser: Browser) -> None:
     browser.act("#kept-list li:nth-child(2) button")
     tally.equal("one is gone on with", browser.text("bracketed"), before[1])
     tally.equal("and the others stay", browser.texts("#kept-list .step .moves"), before)
-    browser.click("#kept-list li:nth-child(3) button:nth-of-type(2)")
+    browser.click("#kept-list li:nth-child(3) [data-control^=away]")
     tally.equal("one is taken away", browser.texts("#kept-list .step .moves"), before[:2])
     tally.equal(
         "its stars are the page's", browser.script("return document.getElementById('keep-line').ariaPressed"), "true"

@@ -48,7 +48,7 @@ def lengthen(tally: Tally, browser: Browser) -> None:
     position = Position(SCRAMBLE)
     rows, every, shortest = (
         position.rows("eoud", "inverse", 1),
-        position.solutions("eoud", "inverse", 1),
+        position.listed("eoud", "inverse", 1),
         len(position.rows("eoud", "inverse")),
     )
     heads = [f"5 moves: {shortest} rows", f"6 moves: {len(rows) - shortest} rows"]

@@ -128,6 +128,7 @@ def other_side(tally: Tally, browser: Browser) -> None:
     """A step that stands on the wrong side goes to the other one, with what it reaches there; one over both sides has them changed."""
     switch = "const it = document.querySelectorAll('#line-list li')[arguments[0]].lastChild.lastChild; it.focus(); it.click()"
     said = "return all('#line-list .reaches').map((each) => each.textContent)"
+    hint = "return all('#line-list .otherwise').map((each) => each.textContent)"
     on_inverse = {
         "bracketed": "(B D R F2 B D)",
         said: ["EO U/D"],
@@ -136,8 +137,8 @@ def other_side(tally: Tally, browser: Browser) -> None:
     browser.walk(
         tally,
         "a step",
-        ("go", address_of(LONGER) + "&steps=normal.B_D_R_F2_B_D", {said: [""]}),
-        ("script", switch, 0, on_inverse),
+        ("go", address_of(LONGER) + "&steps=normal.B_D_R_F2_B_D", {said: [""], hint: ["EO U/D on the other side"]}),
+        ("script", switch, 0, on_inverse | {hint: [""]}),
         ("script", switch, 0, {"bracketed": "B D R F2 B D", said: [""]}),
         ("go", "#scramble=R_U_F&steps=normal.D~normal.R2.inverse.L", {"bracketed": "D R2 (L)"}),
         ("script", switch, 1, {"bracketed": "D L (R2)", "steps": 2}),

@@ -1,6 +1,8 @@
 """Text of twice the size, wider spacing, and windows that are very narrow or wide: nothing is cut, nothing stands on something else, and
 nothing is beyond the window."""
+from best import LONGER, address_of
 from browser import Browser
+from compared import EO, KEPT, LAST, OTHER, chooses
 from looks import ADDRESS, SCRAMBLE
 from tally import Tally
 
@@ -54,17 +56,32 @@ SIZES = (
 )
 
 
+def at_each_size(tally: Tally, browser: Browser, state: str, broken: str = BROKEN) -> None:
+    """At each size the page doesn't scroll sideways, and nothing is beyond the window, cut, or on something else."""
+    for name, width, style in SIZES:
+        browser.resize(width, 800)
+        browser.script(STYLE, style)
+        browser.until("return innerWidth === arguments[0]", width)
+        is_within, far, cut, on = browser.script(broken)
+        tally.equal(f"{name} at {width} points, {state}", (is_within, far[-3:], cut[-3:], on[:3]), (True, [], [], []))
+
+
 def is_whole(tally: Tally, browser: Browser) -> None:
-    """In each state, at each size, the page doesn't scroll sideways, and nothing is beyond the window, cut, or on something else."""
+    """So it is in each state."""
     browser.resize(360, 800)
     for state, address in STATES:
         browser.open(address)
         browser.wait_best()
-        for name, width, style in SIZES:
-            browser.resize(width, 800)
-            browser.script(STYLE, style)
-            browser.until("return innerWidth === arguments[0]", width)
-            is_within, far, cut, on = browser.script(BROKEN)
-            tally.equal(
-                f"{name} at {width} points, {state}", (is_within, far[-3:], cut[-3:], on[:3]), (True, [], [], [])
-            )
+        at_each_size(tally, browser, state)
+
+
+def compared_lines(tally: Tally, browser: Browser) -> None:
+    """Lines that are compared stand before the page, and each is whole."""
+    browser.resize(360, 800)
+    browser.open(address_of(LONGER) + KEPT)
+    browser.wait_best()
+    browser.until("return all('#kept-list .total').every((each) => each.textContent !== '')")
+    chooses(browser, EO, OTHER, LAST)
+    browser.click("#kept-compare")
+    tally.holds("they come", browser.until("return part('comparison').open"))
+    at_each_size(tally, browser, "compared lines", BROKEN.replace('all("body *")', 'all("#comparison *")'))

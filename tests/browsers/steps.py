@@ -1,7 +1,7 @@
 """The way on from step to step and back: the browser's history, undo, what is kept, the lists and their filter."""
 from browser import Browser, Keys
 from tally import Tally
-from wanted import Position, is_earlier
+from wanted import Position
 
 SCRAMBLE = "F2 U2 L2 D2 R2 L2 U2 L B R2 B2 L2 D F B2 R2 U' F R L U R2 F' D2 R2"
 ADDRESS = "#scramble=" + SCRAMBLE.replace(" ", "_").replace("'", "-")
@@ -171,8 +171,7 @@ def leaves_list(tally: Tally, browser: Browser) -> None:
 def filters(tally: Tally, browser: Browser) -> None:
     """The filter finds whole moves one after another, however they are typed, in each solution that doesn't reach its step before."""
     browser.walk(tally, "a list", ("go", ADDRESS + "&list=eoud.normal.1", {}), ("script", "part('twins').click()", {}))
-    every = Position(SCRAMBLE).solutions("eoud", "normal", 1)
-    listed = [moves.split() for moves in every if not is_earlier(moves, set(every))]
+    listed = [moves.split() for moves in Position(SCRAMBLE).listed("eoud", "normal", 1)]
     for typed, turns in (*TYPED, *OPPOSITE):
         browser.script(TYPE, typed)
         places = [[moves[at : at + len(turns)] for at in range(len(moves))] for moves in listed]

@@ -198,6 +198,11 @@ class Position:
         text = run(("near", step, "20", str(slack)), self.lines[side])[0]
         return [re.sub(r" ?\(\d+\)$", "", line) for line in text.splitlines() if line]
 
+    def listed(self, step: str, side: str, slack: int) -> list[str]:
+        """Those of a list with each twin by itself: none that reaches the step before its last move."""
+        solutions = self.solutions(step, side, slack)
+        return [moves for moves in solutions if not is_earlier(moves, set(solutions))]
+
 
 def counted(number: int, word: str) -> str:
     """A number with its word."""

@@ -5,8 +5,8 @@ import { lastOf } from "../shared/certain.js";
 import { casesPassed, positionAfter, totalsWith, type Position } from "./position-after.js";
 import { readScramble, type ReadScramble } from "./read-lines.js";
 import {
-  REDUCTIONS, SIDES, bracketed, isOffered, isReduced, openSteps, partOn, singleMoves, stepNamed, type OfferedStep,
-  type Part, type Side, type Step,
+  REDUCTIONS, SIDES, bracketed, isOffered, isReduced, newlyReached, openSteps, partOn, singleMoves, stepNamed,
+  type OfferedStep, type Part, type Side, type Step,
 } from "../shared/offered-steps.js";
 import type { BestRow } from "../../module/shared/ways.js";
 import type { Candidate } from "../state/address.js";
@@ -20,7 +20,8 @@ export type View = { letters: string; facts: Facts };
 export type Counted = Count & { total: number; best: number };
 export type Offer = { step: OfferedStep; normal: Counted; inverse: Counted };
 /** What is known of a line after each beginning, from none of its parts to all; `turns`: of each part; `passed`: the
- * case before each move of those that lead from an orientation to a reduction; `now`: the cube then. */
+ * case before each move of those that lead from an orientation to a reduction; `otherwise`: what a part that reaches
+ * nothing would reach on the other side; `now`: the cube then. */
 export type Walk = {
   parts: Part[];
   facts: Facts[];
@@ -28,6 +29,7 @@ export type Walk = {
   totals: number[];
   turns: number[];
   passed: string[][];
+  otherwise: string[][];
   now: Position;
 };
 
@@ -55,6 +57,15 @@ function passedBy(nissy: Nissy, parts: Part[], positions: Position[], reached: s
   });
 }
 
+/** What the last of some parts would reach on the other side, if it reaches nothing where it is. */
+function reachedOtherwise(nissy: Nissy, scramble: string, parts: Part[], reached: string[][]) {
+  const [before, { normal, inverse }] = [parts.slice(0, -1), lastOf(parts)];
+  if (newlyReached({ reached }, before.length).length > 0) return [];
+  const line = nissy.lineAfter(scramble, bracketed([...before, { normal: inverse, inverse: normal }]));
+  const there = nissy.facts(line).holds.filter(isOffered);
+  return newlyReached({ reached: [reached[before.length], there] }, 0);
+}
+
 function walkOf(nissy: Nissy, scramble: string, parts: Part[]): Walk {
   const positions = positionsOf(nissy, scramble, parts);
   const facts = positions.map(({ lines }) => nissy.facts(lines.normal));
@@ -66,6 +77,7 @@ function walkOf(nissy: Nissy, scramble: string, parts: Part[]): Walk {
     totals: positions.map(({ count }) => count),
     turns: parts.map((part) => SIDES.reduce((sum, side) => sum + nissy.facts(part[side]).cleanMoves, 0)),
     passed: passedBy(nissy, parts, positions, reached),
+    otherwise: parts.map((_, at) => reachedOtherwise(nissy, scramble, parts.slice(0, at + 1), reached)),
     now: lastOf(positions),
   };
 }

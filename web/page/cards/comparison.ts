@@ -1,16 +1,18 @@
 // Lines that are kept, two to four beside each other: the nets of both sides with what is left to do, how many steps
 // follow on each, and the first of the best.
-import { button, counted, element, part } from "../shared/element.js";
+import { button, counted, element, part, spoken } from "../shared/element.js";
 import { SIDES, bracketed, stateOf, stepNamed, type Part, type Side } from "../shared/offered-steps.js";
 import { showMarked } from "./cube.js";
 import { emptyNet } from "./net.js";
 import { caseOfStep } from "./step-table.js";
 import type { Compared, Counts } from "../answers/compare.js";
+import type { BestRow } from "../../module/shared/ways.js";
 import type { View } from "../answers/examine.js";
 
 export const MOST_COMPARED = 4;
 
-export type ComparedLine = { parts: Part[]; note: string; goOn: () => void };
+/** `next`: the best of the reduction that it was kept with. */
+export type ComparedLine = { parts: Part[]; note: string; next: BestRow | null; goOn: () => void };
 
 const NAMES = { normal: "Normal", inverse: "Inverse" };
 
@@ -34,8 +36,8 @@ function followingOf({ steps, views: { normal: { facts } } }: Compared) {
     element("thead", {}, element("tr", {}, element("td"), ...head)), element("tbody", {}, ...rows));
 }
 
-function itemOf({ parts, note, goOn }: ComparedLine, compared: Compared) {
-  const { views, first, total } = compared;
+function itemOf({ parts, note, next, goOn }: ComparedLine, compared: Compared) {
+  const [{ views, total }, first] = [compared, next ?? compared.first];
   const choice = first === null ? "" : stateOf(stepNamed((first.eo ?? first.dr).step));
   const then = first === null ? []
     : ["First: ", element("span", { class: "moves" }, first.line), `, ${first.total} in all`];
@@ -50,7 +52,7 @@ function itemOf({ parts, note, goOn }: ComparedLine, compared: Compared) {
     followingOf(compared),
     element("p", {}, ...then),
     element("p", { class: "note" }, note),
-    button("Go on", { class: "quiet", "aria-label": `Go on: ${bracketed(parts)}`, click: close }));
+    button("Go on", { class: "quiet", "aria-label": `Go on: ${spoken(bracketed(parts))}`, click: close }));
 }
 
 /** Shows lines beside each other, until that is closed. */

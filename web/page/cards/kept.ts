@@ -195,7 +195,8 @@ export class KeptCandidates {
     this.#list.replaceChildren(...this.#sorted().map((each) => this.#item(each)));
     if (focused) this.#control(focused)?.focus({ preventScroll: true });
     this.#compared = this.#compared.filter((name) => this.#candidates.some((each) => nameOf(each) === name));
-    tell(part("kept-compare"), this.#compared.length < 2 ? "" : `Compare ${this.#compared.length}`);
+    const isKnown = this.#compared.length > 1 && this.#walks.length > 0;
+    tell(part("kept-compare"), isKnown ? `Compare ${this.#compared.length}` : "");
     tell(part("kept-count"), this.#candidates.length === 0 ? "" : counted(this.#candidates.length, "line"));
   }
 
@@ -248,12 +249,14 @@ export class KeptCandidates {
 
   /** Shows those that were chosen beside each other. */
   async #compare() {
+    const candidates = this.#candidates;
     const chosen = this.#sorted().filter(({ candidate }) => this.#compared.includes(nameOf(candidate)));
     const lines = chosen.map(({ candidate }) => candidate.parts);
     try {
       const told = await this.calls.ask("compareLines", { scramble: this.#line, lines });
+      if (candidates !== this.#candidates) return;
       compare(chosen.map(({ candidate, walk }) =>
-        ({ ...candidate, goOn: () => this.#goOn(candidate, walk) })), told);
+        ({ ...candidate, next: walk?.next ?? null, goOn: () => this.#goOn(candidate, walk) })), told);
     } catch (fault) {
       if (!(fault instanceof Stopped)) tell(part("alert"), unanswered(fault));
     }

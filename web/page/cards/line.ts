@@ -72,7 +72,7 @@ export class LineSoFar {
   /** the same of steps that are about to be shown, one of which was edited or removed */
   #wanted: string[][] | null = null;
   /** the elements that say of each step what it reaches and how long it is, also if a field stands in their place */
-  #words: Record<"moves" | "reaches" | "lost" | "count", PageElement>[] = [];
+  #words: Record<"moves" | "reaches" | "lost" | "otherwise" | "count", PageElement>[] = [];
   #side: Side = "normal";
 
   constructor(private readonly calls: Calls, private readonly reader: Reader, private readonly acts: LineActs) {
@@ -120,6 +120,7 @@ export class LineSoFar {
       moves: element("span", { class: "moves" }, bracketed([each])),
       reaches: element("span", { class: "reaches", hidden: true }),
       lost: element("span", { class: "lost", "aria-live": "polite", hidden: true }),
+      otherwise: element("span", { class: "note otherwise", "aria-live": "polite", hidden: true }),
       count: element("span", { class: "count" }),
     }));
     for (const name of ["finished", "own-read"]) tell(part(name), "");
@@ -140,12 +141,13 @@ export class LineSoFar {
       line: bracketed(walk.parts), joined: whole, total: counted(lastOf(walk.totals), "move"), note: noteOfJoined(walk),
       fmc: fmcOf(scramble, walk),
     });
-    this.#words.forEach(({ moves, reaches, lost, count }, index) => {
+    this.#words.forEach(({ moves, reaches, lost, otherwise, count }, index) => {
       moves.replaceChildren(...withCases(bracketed([walk.parts[index]]), walk.passed[index]));
       const inAll = index === 0 ? "" : `, ${walk.totals[index + 1]} in all`;
       count.textContent = `${counted(walk.turns[index], "move")}${inAll}`;
       const [fresh, missed] = [newlyReached(walk, index), this.#lost(walk, index)];
       tell(reaches, fresh.join(", "));
+      tell(otherwise, walk.otherwise[index].map((state) => `${state} on the other side`).join(", "));
       tell(lost, missed.length === 0 ? "" : `no longer ${listed(missed)}`);
       if (missed.length === 0 || fresh.length > 0) this.#reached[index] = fresh;
     });
@@ -174,9 +176,9 @@ export class LineSoFar {
     const text = bracketed([each]);
     const act = (word: string, click: () => void) =>
       button(word, { class: "quiet", "aria-label": `${word} ${spoken(text)}`, click });
-    const { moves, reaches, lost, count } = this.#words[index];
+    const { moves, reaches, lost, otherwise, count } = this.#words[index];
     return element("li", {},
-      element("span", { class: "step" }, moves, reaches, lost, element("span", { class: "note" }, count)),
+      element("span", { class: "step" }, moves, reaches, lost, element("span", { class: "note" }, count), otherwise),
       element("span", { class: "acts" },
         act("Edit", () => this.#edit(index)), act("Remove", () => this.#replace(index, [], 1)),
         act("Other side", () => this.#replace(index, [{ normal: each.inverse, inverse: each.normal }], 2))));

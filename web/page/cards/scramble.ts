@@ -1,7 +1,7 @@
 // The card of the scramble: its field, with what was left out of a text and what is at fault, examples, random
 // scrambles, and the fold of it if the page is narrow.
 import { Stopped } from "../../module/shared/faults.js";
-import { announce, announceLater, counted, element, part, tell } from "../shared/element.js";
+import { announce, announceLater, counted, part, tell } from "../shared/element.js";
 import { emptyState } from "../state/address.js";
 import { sheetsIn, type NewSheet } from "../state/desk.js";
 import { LONGEST_SCRAMBLE } from "../state/limits.js";

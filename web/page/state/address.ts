@@ -87,11 +87,6 @@ const readParts = (text: string): Part[] => split(text, "~", MOST_PARTS).map(rea
 /** How many moves longer something may be. */
 const isSlack = (text: string) => /^[0-9]$/.test(text) && Number(text) <= GREATEST_SLACK;
 
-function readLonger(text: string) {
-  if (!isSlack(text)) throw new Error("no number of moves");
-  return Number(text);
-}
-
 function readList(text: string): List {
   const [step, side, slack, all, ...rest] = text.split(".");
   const isRead = isSlack(slack) && (all === undefined || all === ALL_ROWS);
@@ -108,27 +103,25 @@ function readCandidate(text: string): Candidate {
   return { parts: readParts(parts), note: plain, next };
 }
 
-function readText(text: string) {
+/** What was read, or a fault. */
+function readOr<Value>(value: Value | undefined, why: string): Value {
+  if (value === undefined) throw new Error(why);
+  return value;
+}
+
+function scrambleIn(text: string) {
   const scramble = oneLine(spelled(text));
-  if (scramble.length > LONGEST_SCRAMBLE) throw new Error("too long");
-  return scramble;
+  return scramble.length <= LONGEST_SCRAMBLE ? scramble : undefined;
 }
-
-function readSide(text: string) {
-  if (!isSide(text)) throw new Error("no side");
-  return text;
-}
-
-const readCandidates = (text: string) => split(text, ",", MOST_CANDIDATES).map(readCandidate);
 
 /** The part of the state that each field of an address gives. */
 const FIELDS: Record<string, (value: string) => Partial<State>> = {
-  scramble: (value) => ({ scramble: readText(value) }),
+  scramble: (value) => ({ scramble: readOr(scrambleIn(value), "too long") }),
   steps: (value) => ({ parts: readParts(value) }),
-  side: (value) => ({ side: readSide(value) }),
+  side: (value) => ({ side: readOr(SIDES.find((side) => side === value), "no side") }),
   list: (value) => ({ list: readList(value) }),
-  longer: (value) => ({ longer: readLonger(value) }),
-  kept: (value) => ({ kept: readCandidates(value) }),
+  longer: (value) => ({ longer: readOr(isSlack(value) ? Number(value) : undefined, "no number of moves") }),
+  kept: (value) => ({ kept: split(value, ",", MOST_CANDIDATES).map(readCandidate) }),
 };
 
 /** Puts a field into the state, or says why it isn't. */
