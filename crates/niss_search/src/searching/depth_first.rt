@@ -44,7 +44,8 @@ pub(super) struct Descent<'a, K> {
 
 impl<K: Sink> Descent<'_, K> {
     /// Looks at the position of the path and, if the look allows, goes on below it with `left` turns more. Hands
-    /// what it finds to the sink, and counts it.
+    /// what it finds to the sink, and counts it. It isn't inlined, so that it is compiled once for each sink.
+    #[inline(never)]
     pub fn begin<A: Allocator, B: Budget<K::Fault>>(
         &mut self,
         guide: Guide<'_, Tables<A>, B>,
