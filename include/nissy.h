@@ -207,9 +207,9 @@ typedef struct nissy_search_answer {
  * small. If there are none, nothing is written: then `solutions` is 0 and `more` 0. What follows those that are written is as it was.
  * It takes no memory.
  *
- * It looks at no more than `most_nodes` positions, unless this is NISSY_ALL: before it would look at more, it ends with NISSY_CUT, which
- * happens only if the whole search, that of all solutions, looks at more. It has looked at more than `most_nodes` - 18 then, and what is
- * written is a beginning of the list. So no line can hold a service for long that asks with 1,000,000.
+ * It looks at no more than `most_nodes` positions: before it would look at more, it ends with NISSY_CUT, which happens only if the whole
+ * search, that of all solutions, looks at more. It has looked at more than `most_nodes` - 18 then, and what is written is a beginning of
+ * the list. So no line can hold a service for long that asks with 1,000,000. NISSY_ALL is more than any search looks at in a lifetime.
  *
  * NISSY_USAGE: the struct has no tables, or `limit` or `slack` is above 20. NISSY_STOPPED: the line has more than NISSY_MOST_INPUT
  * bytes. NISSY_FAULT: the line has a fault, or NISSY_START. The first of these that holds is reported, in this order. */

@@ -12,16 +12,18 @@ ghost use Rattle.niss_shell.specs.Words.{most_bytes, most_limit};
 ghost use Rattle.niss_embed.specs.Memory.{memory};
 ghost use Rattle.niss_embed.specs.LineCalls.{status_number};
 ghost use Rattle.niss_embed.specs.LineSearch.{most_of_line, lines_state, Takes, Refuses, capped, SolvesCube, is_cut};
-ghost use Rattle.niss_embed.specs.LineSearch.{SolvesLine, CountsCube, CountsLine, count_state, Counts, CountsNoMore, wanted_in};
+ghost use Rattle.niss_embed.specs.LineSearch.{SolvesLine, count_state, Counts, CountsNoMore, wanted_in};
 ghost use Rattle.niss_embed.specs.declared.answer.Status.TheVariants.{Done, NoRoom, Cut};
 
 mod after;
+mod counting;
 
 use crate::answer::Status;
 use crate::line_texts::read_by;
 use crate::memory::put;
 use crate::search_answer::SearchAnswer;
 pub use after::solve_after;
+pub use counting::count_line;
 use niss_moves::{LineReader, LineText, Turn};
 use niss_search::laws::first_is_least;
 use niss_search::{
@@ -322,47 +324,5 @@ impl Sink for CountedSolutions {
         }
         self.solutions += 1;
         Ok(())
-    }
-}
-
-/// Counts the solutions from a position.
-fn count_position<A: Allocator>(
-    tables: &Tables<A>,
-    position: &Position,
-    bounds: Bounds,
-) -> SearchAnswer
-    requires { IsPosition tables.now position.now }
-    ensures { (e : Place → Place) → HasPosition tables.now e position.now →
-        CountsCube tables.now (wanted_in bounds) e result }
-{
-    first_is_least();
-    let mut looks = Meter::new();
-    let mut counted = CountedSolutions::new(bounds.most);
-    let found = search_at_most(tables, position, bounds, &mut looks, &mut counted);
-    SearchAnswer {
-        status: status_of(was_cut(&found), false),
-        fault: 0,
-        least: counted.first.unwrap_or(0),
-        more: found.is_err(),
-        column: 0,
-        length: 0,
-        solutions: counted.solutions,
-        nodes: capped(looks.count()),
-    }
-}
-
-/// Counts the solutions for a line that `solve_line` writes if it has room for all, at most `most` of them.
-pub fn count_line<A: Allocator>(tables: &Tables<A>, line: &[u8], wanted: Wanted) -> SearchAnswer
-    ensures { CountsLine tables.now wanted line.now result }
-{
-    let Some(bounds) = Bounds::new(wanted) else {
-        return SearchAnswer::misused();
-    };
-    if line.len() > MOST_BYTES {
-        return SearchAnswer::too_long();
-    }
-    match begin(tables, line) {
-        Ok(position) => count_position(tables, &position, bounds),
-        Err(fault) => SearchAnswer::faulty(fault),
     }
 }

@@ -29,13 +29,14 @@ abbrev refused : Rows → Pair → Rows → Type 0
 refused old p new = LeftOut old new
 
 pub stays_none : (a : Rows) → StaysListing a a
-stays_none a = record { names = refl; step = refl; passed = refl; room = refl; same_length = refl }
+stays_none a = record { names = refl; step = refl; passed = refl; counts = refl; room = refl; same_length = refl }
 
 pub stays_more : (a b c : Rows) → StaysListing a b → StaysListing b c → StaysListing a c
 stays_more a b c x y = record {
   names = y.names ∙ x.names;
   step = y.step ∙ x.step;
   passed = y.passed ∙ x.passed;
+  counts = y.counts ∙ x.counts;
   room = y.room ∙ x.room;
   same_length = y.same_length ∙ x.same_length;
 }
@@ -93,6 +94,7 @@ went_into a b (x ∷ xs) (inr h) = first_more a h.0 b x xs h.1.0 (went_into h.0 
 pub record IsFull (a : Rows) (all : List Pair) (b : Rows) : Type 0 where
   pub first : CameFirst a all b
   pub full : (came : List Pair) → HasListed a came → b.rows ≡ length b.room.now
+  pub uncounted : b.counts ≡ false
 
 stopped_now : (a b : Rows) (xs : List Pair) → LeftOut a b → IsFull a xs b
 stopped_now a b xs left = record {
@@ -106,12 +108,14 @@ stopped_now a b xs left = record {
     };
   };
   full = left.full;
+  uncounted = left.uncounted;
 }
 
 stopped_later : (a b c : Rows) (x : Pair) (xs : List Pair) → ListedOne a x b → IsFull b xs c → IsFull a (x ∷ xs) c
 stopped_later a b c x xs one h = record {
   first = first_more a b c x xs one h.first;
   full = λ came k. h.full (came ++ x ∷ []) (one.lists came k);
+  uncounted = h.uncounted;
 }
 
 pub stopped : (a b : Rows) (xs : List Pair) → StoppedIn took refused a xs b → IsFull a xs b
@@ -182,6 +186,7 @@ put_one a m b x one is reached place =
         names = one.stays.names;
         step = one.stays.step;
         passed = one.stays.passed;
+        counts = one.stays.counts;
         room = one.stays.room;
         same_length = one.stays.same_length;
       };
@@ -207,7 +212,7 @@ pub counted_one : (a b : Rows) (x : Pair) → b ≡ record a { came = min (a.cam
     → length a.room.now ≤ a.rows → ListedOne a x b
 counted_one a b x is reached full =
     subst (λ (r : Rows). ListedOne a x r) (sym is) (record {
-      stays = record { names = refl; step = refl; passed = refl; room = refl; same_length = refl };
+      stays = record { names = refl; step = refl; passed = refl; counts = refl; room = refl; same_length = refl };
       lists = counted_lists a x reached full;
     })
 
@@ -227,10 +232,10 @@ module _ (a b : Rows) (step : Step) (e : Place → Place) (listed : Listed) (fou
   all_looks = looks_of_pairs step e listed.sides listed.length
 
   into : (came rest : List Pair) → all ≡ came ++ rest → HasListed a [] → Came a came b → a.step ≡ step → a.passed ≡ listed.passed
-      → found.rows ≡ b.rows → found.solutions ≡ b.came → (found.cut ≡ false → found.more ≡ false → rest ≡ [])
-      → (found.more ≡ true → b.rows ≡ length b.room.now) → (found.cut ≡ false → found.more ≡ false → found.looks ≡ all_looks)
+      → a.counts ≡ listed.counts → found.rows ≡ b.rows → found.solutions ≡ b.came → (found.cut ≡ false → found.more ≡ false → rest ≡ [])
+      → (found.more ≡ true → (b.rows ≡ length b.room.now) × (b.counts ≡ false)) → (found.cut ≡ false → found.more ≡ false → found.looks ≡ all_looks)
       → (found.cut ≡ true → listed.most_looks < all_looks) → ListsInto a.names.now step e listed (length a.room.now) b.room.now found
-  into came rest are empty h is_step is_passed rows solutions whole full looked cut =
+  into came rest are empty h is_step is_passed is_counts rows solutions whole full looked cut =
       let has : HasListed b came = h.lists [] empty in
       record {
         came = came;
@@ -241,26 +246,28 @@ module _ (a b : Rows) (step : Step) (e : Place → Place) (listed : Listed) (fou
             (h.stays.step ∙ is_step) (h.stays.passed ∙ is_passed) (sym rows) has.stand;
         same_length = h.stays.same_length;
         counted = solutions ∙ has.counted;
-        full = λ more. rows ∙ full more ∙ h.stays.same_length;
+        full = λ more. rows ∙ (full more).0 ∙ h.stays.same_length;
+        uncounted = λ more. sym is_counts ∙ sym h.stays.counts ∙ (full more).1;
         looked = looked;
         cut = cut;
       }
 
   pub lists_into : (meter meter_now bound : ℕ) (ended : Result ℕ (Stopped Full)) → HandsOut took refused all all_looks meter meter_now a b is_cut_in bound (λ count. count) ended
-      → meter ≡ 0 → bound ≡ meter + listed.most_looks → HasListed a [] → a.step ≡ step → a.passed ≡ listed.passed → EndsListing ended b.rows b.came meter_now found
+      → meter ≡ 0 → bound ≡ meter + listed.most_looks → HasListed a [] → a.step ≡ step → a.passed ≡ listed.passed → a.counts ≡ listed.counts
+      → EndsListing ended b.rows b.came meter_now found
       → ListsInto a.names.now step e listed (length a.room.now) b.room.now found
-  lists_into meter meter_now bound (Ok count) h zero is empty is_step is_passed ends =
-      into all [] (sym (append-nil all)) empty (went a b all h.taken) is_step is_passed ends.rows_are ends.solutions_are (λ cut more. refl)
+  lists_into meter meter_now bound (Ok count) h zero is empty is_step is_passed is_counts ends =
+      into all [] (sym (append-nil all)) empty (went a b all h.taken) is_step is_passed is_counts ends.rows_are ends.solutions_are (λ cut more. refl)
       (λ more. absurd (false≢true (sym ends.more ∙ more))) (λ cut more. omega (arith, ends.looks_are, h.looked, zero))
       (λ cut. absurd (false≢true (sym ends.cut ∙ cut)))
-  lists_into meter meter_now bound (Err (Refused full)) h zero is empty is_step is_passed ends =
+  lists_into meter meter_now bound (Err (Refused full)) h zero is empty is_step is_passed is_counts ends =
       let at : IsFull a all b = stopped a b all h.taken in
-      into at.first.came at.first.rest at.first.are empty at.first.lists is_step is_passed ends.rows_are ends.solutions_are
-      (λ cut more. absurd (false≢true (sym more ∙ ends.more))) (λ more. at.full [] empty) (λ cut more. absurd (false≢true (sym more ∙ ends.more)))
+      into at.first.came at.first.rest at.first.are empty at.first.lists is_step is_passed is_counts ends.rows_are ends.solutions_are
+      (λ cut more. absurd (false≢true (sym more ∙ ends.more))) (λ more. (at.full [] empty, at.uncounted)) (λ cut more. absurd (false≢true (sym more ∙ ends.more)))
       (λ cut. absurd (false≢true (sym ends.cut ∙ cut)))
-  lists_into meter meter_now bound (Err Cut) h zero is empty is_step is_passed ends =
+  lists_into meter meter_now bound (Err Cut) h zero is empty is_step is_passed is_counts ends =
       let first : CameFirst a all b = went_into a b all h.taken in
-      into first.came first.rest first.are empty first.lists is_step is_passed ends.rows_are ends.solutions_are
+      into first.came first.rest first.are empty first.lists is_step is_passed is_counts ends.rows_are ends.solutions_are
       (λ cut more. absurd (false≢true (sym cut ∙ ends.cut))) (λ more. absurd (false≢true (sym ends.more ∙ more))) (λ cut more. absurd (false≢true (sym cut ∙ ends.cut)))
       (λ cut. omega (arith, h.over refl, zero, is))
 

@@ -32,6 +32,7 @@ pub record ListsInto (names : List Face) (step : Step) (e : Place → Place) (li
   pub same_length : length room ≡ places
   pub counted : found.solutions ≡ min (length came) (2 ^ 64 - 1)
   pub full : found.more ≡ true → found.rows ≡ places
+  pub uncounted : found.more ≡ true → listed.counts ≡ false
   pub looked : found.cut ≡ false → found.more ≡ false → found.looks ≡ looks_of_pairs step e listed.sides listed.length
   pub cut : found.cut ≡ true → listed.most_looks < looks_of_pairs step e listed.sides listed.length
 
@@ -67,6 +68,7 @@ pub record StaysListing (old new : Rows) : Type 0 where
   pub names : new.names.now ≡ old.names.now
   pub step : new.step ≡ old.step
   pub passed : new.passed ≡ old.passed
+  pub counts : new.counts ≡ old.counts
   pub room : new.room.ghost_name ≡ old.room.ghost_name
   pub same_length : length new.room.now ≡ length old.room.now
 
@@ -88,3 +90,4 @@ pub record LeftOut (old new : Rows) : Type 0 where
   pub stays : StaysListing old new
   pub lists : (came : List Pair) → HasListed old came → HasListed new came
   pub full : (came : List Pair) → HasListed old came → new.rows ≡ length new.room.now
+  pub uncounted : new.counts ≡ false

@@ -1,5 +1,5 @@
-//! The solutions of the first step, each with what is done with it. One type takes orientations and reductions, so there is
-//! one search for both.
+//! The solutions of the first step, and what is done with each. One type takes orientations and reductions, so that the
+//! search for both is compiled once.
 ghost use Rattle.std.specs.Prelude.{◌≡◌};
 ghost use Rattle.niss_ways.specs.Sinks.{Keeps};
 
@@ -29,7 +29,7 @@ enum Task {
     Bound,
     /// The ways on by an orientation are taken.
     Continue,
-    /// A reduction is taken, where these orientations hold, bit i for step i.
+    /// A reduction is taken; these orientations hold, bit i for step i.
     End(u16),
 }
 
@@ -44,7 +44,7 @@ struct FirstSteps<'a, A: Allocator> {
     task: Task,
     /// The axis of the orientations.
     axis: Axis,
-    /// How many moves there are in all at most with each orientation, and so many that no way has that is of use.
+    /// How many moves in all each orientation comes to at most, and how many are more than any way that is wanted has.
     totals: Totals,
     below: u16,
     /// The looks at what follows orientations.

@@ -97,6 +97,7 @@ impl Rows<'_> {
         requires empty { HasListed self.old [] }
         requires step { self.old.step ≡ tables.now }
         requires passed { self.old.passed ≡ listed.now.passed }
+        requires counts { self.old.counts ≡ listed.now.counts }
         ensures stays { StaysListing self.old self.new }
         ensures lists { ListsInto self.old.names.now tables.now (map_of cube.now) listed.now (length self.old.room.now)
             self.new.room.now result }

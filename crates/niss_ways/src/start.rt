@@ -3,7 +3,7 @@ ghost use Rattle.niss_moves.specs.Effects.{effect_of_turns};
 ghost use Rattle.niss_moves.specs.Places.{SameMap};
 ghost use Rattle.niss_cube.specs.Map.{map_of};
 ghost use Rattle.std.specs.Prelude.{◌≡◌, ◌≤◌, ◌++◌, length, map, reverse, IfSome};
-ghost use Rattle.niss_moves.specs.Effects.{inverse_turn};
+ghost use Rattle.niss_moves.specs.Effects.{inverse, inverse_turn};
 ghost use Rattle.niss_ways.specs.Starts.{turns_after};
 
 use crate::counting::{cleaned, inverse_of};
@@ -88,7 +88,9 @@ fn made_after(rotation: Rotation, moves: &[Token]) -> Option<(Faces, Rotation)>
 }
 
 /// Moves that undo those in brackets.
-fn undone(line: &Niss) -> ArrayVec<Token, 256> {
+fn undone(line: &Niss) -> ArrayVec<Token, 256>
+    ensures { result.items ≡ inverse line.now.bracketed }
+{
     let mut moves = ArrayVec::new();
     let mut rest = line.inverse();
     while let Some((last, front)) = rest.split_last() {

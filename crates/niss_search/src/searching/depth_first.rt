@@ -59,53 +59,22 @@ impl<K: Sink> Descent<'_, K> {
             (below_at guide.entry.tables.now position.now (turns self.old) left) 0
             meter result.0 self.old self.new result.1 }
     {
-        let mut meter = meter;
-        if let Err(stop) = guide.budget.admit(&meter, 1) {
-            return (meter, Err(stop));
-        }
-        if guide.tables.look(position, &mut meter) > left {
-            return (meter, Ok(()));
-        }
-        self.go_on_from(guide, position, left, meter)
-    }
-
-    /// Goes on below the path with `left` turns more, once its position was looked at.
-    fn go_on_from<A: Allocator, B: Budget<K::Fault>>(
-        &mut self,
-        guide: Guide<'_, Tables<A>, B>,
-        position: &Position,
-        left: u8,
-        meter: Meter,
-    ) -> (Meter, Result<(), B::Stop>)
-        requires position { IsPosition guide.tables.now position.now }
-        requires near { distance_at guide.tables.now position.now ≤ left }
-        requires asked { MayMake (beyond_at guide.tables.now position.now (turns self.old) left) left 1
-            (B.bound guide.budget.now) meter self.old }
-        ensures { HasMade K.took K.refused B.is_cut (B.bound guide.entry.budget.now) guide.entry.tables.now
-            (beyond_at guide.entry.tables.now position.now (turns self.old) left) 1
-            meter result.0 self.old self.new result.1 }
-    {
         let budget = guide.budget;
         match guide.tables.kind() {
-            Kind::Edges(tables) => self.extend_from(
+            Kind::Edges(tables) => self.begin_with(Guide { tables, budget }, position, left, meter),
+            Kind::AnyEdges(tables) => self.begin_with(
                 Guide { tables, budget },
                 position,
                 left,
                 meter,
             ),
-            Kind::AnyEdges(tables) => self.extend_from(
+            Kind::Domino(tables) => self.begin_with(
                 Guide { tables, budget },
                 position,
                 left,
                 meter,
             ),
-            Kind::Domino(tables) => self.extend_from(
-                Guide { tables, budget },
-                position,
-                left,
-                meter,
-            ),
-            Kind::EitherDomino(tables) => self.extend_from(
+            Kind::EitherDomino(tables) => self.begin_with(
                 Guide { tables, budget },
                 position,
                 left,
@@ -114,8 +83,8 @@ impl<K: Sink> Descent<'_, K> {
         }
     }
 
-    /// `go_on_from` with tables of one kind.
-    fn extend_from<S: StateSpace, B: Budget<K::Fault>>(
+    /// `begin` with tables of one kind.
+    fn begin_with<S: StateSpace, B: Budget<K::Fault>>(
         &mut self,
         guide: Guide<'_, SearchTables<S>, B>,
         position: &Position,
@@ -123,14 +92,20 @@ impl<K: Sink> Descent<'_, K> {
         meter: Meter,
     ) -> (Meter, Result<(), B::Stop>)
         requires position { IsPosition guide.tables.now.step position.now }
-        requires near { distance_at guide.tables.now.step position.now ≤ left }
-        requires asked { MayMake (beyond_at guide.tables.now.step position.now (turns self.old) left) left 1
+        requires asked { MayMake (below_at guide.tables.now.step position.now (turns self.old) left) left 0
             (B.bound guide.budget.now) meter self.old }
         ensures { HasMade K.took K.refused B.is_cut (B.bound guide.entry.budget.now) guide.entry.tables.now.step
-            (beyond_at guide.entry.tables.now.step position.now (turns self.old) left) 1
+            (below_at guide.entry.tables.now.step position.now (turns self.old) left) 0
             meter result.0 self.old self.new result.1 }
     {
+        let mut meter = meter;
         let state = guide.tables.state(position);
+        if let Err(stop) = guide.budget.admit(&meter, 1) {
+            return (meter, Err(stop));
+        }
+        if guide.tables.look(state, &mut meter) > left {
+            return (meter, Ok(()));
+        }
         self.extend(guide, state, left, meter)
     }
 

@@ -27,12 +27,15 @@ pub(super) struct Joined<'a, K> {
     pub count: u128,
 }
 
-/// Whether a pair is handed on.
-fn keeps(ends: Ends, step: Step, cube: &Cube, normal: &TurnPath, inverse: &TurnPath) -> bool
-    ensures { result ≡ is_kept ends step (map_of cube.now) (pair normal.now.turns inverse.now.turns) }
-{
-    let is_left_out = ends.leaves_out(normal) || ends.leaves_out(inverse);
-    !is_left_out && !begins_reached(step, cube, normal.turns(), inverse.turns())
+impl<K> Joined<'_, K> {
+    /// Whether a pair is handed on.
+    fn keeps(&self, normal: &TurnPath, inverse: &TurnPath) -> bool
+        ensures { result ≡ is_kept self.now.ends self.now.step (map_of self.now.cube.now)
+            (pair normal.now.turns inverse.now.turns) }
+    {
+        let is_left_out = self.ends.leaves_out(normal) || self.ends.leaves_out(inverse);
+        !is_left_out && !begins_reached(self.step, self.cube, normal.turns(), inverse.turns())
+    }
 }
 
 impl<K: PairSink> Sink for Joined<'_, K> {
@@ -47,7 +50,7 @@ impl<K: PairSink> Sink for Joined<'_, K> {
             Side::Normal => (self.head, path),
             Side::Inverse => (path, self.head),
         };
-        if !keeps(self.ends, self.step, self.cube, normal, inverse) {
+        if !self.keeps(normal, inverse) {
             return Ok(());
         }
         self.count = self.count.saturating_add(1);

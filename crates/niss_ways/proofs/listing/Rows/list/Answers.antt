@@ -20,5 +20,5 @@ returns-clause-lists g c =
     let ended = c.search_pairs_of_length-ended in
     lists_into c.args.self.now ended.new.sink c.args.tables.now (map_of c.args.cube.now) listed c.found.result c.new-meter.result ended.new.meter
     (c.new-meter.result + c.from-most.result) ended.result ended.ensures.solutions c.new-meter.ensures
-    (ap (λ (n : ℕ). c.new-meter.result + n) c.from-most.ensures) c.requires.empty c.requires.step c.requires.passed
+    (ap (λ (n : ℕ). c.new-meter.result + n) c.from-most.ensures) c.requires.empty c.requires.step c.requires.passed c.requires.counts
     (subst (λ (n : ℕ). EndsListing ended.result ended.new.sink.rows ended.new.sink.came n c.found.result) c.count.ensures c.found.ensures)

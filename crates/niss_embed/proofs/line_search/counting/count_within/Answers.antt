@@ -4,12 +4,12 @@ use Rattle.niss_embed.specs.LineSearch.{count_state, CountsCube, capped, is_cut,
 use Rattle.niss_embed.specs.declared.search_answer.SearchAnswer.{SearchAnswer}
 use Rattle.niss_embed.proofs.SolveLemmas.{told_of}
 use Rattle.niss_embed.proofs.CountLemmas.{counts}
-use Rattle.niss_embed.proofs.line_search.count_position.Goals as goal
+use Rattle.niss_embed.proofs.line_search.counting.count_within.Goals as goal
 
 pub returns : goal.returns
 returns g c = λ e at.
     let step = c.args.tables.now in
-    let w = wanted_in c.args.bounds in
+    let w = wanted_in c.args.bounds.now in
     let a = c.new-counted.result in
     let new = c.new-counted.ensures in
     let b = c.search_at_most-found.new.sink in
