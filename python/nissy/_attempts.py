@@ -109,19 +109,24 @@ class TextLine(NamedTuple):
 class Moves:
     """The moves of those lines of a text that are wanted, written one after another."""
 
-    def __init__(self, whole: Written, written: WrittenLine, nth: Sequence[int], parts: List[Tuple[Any, ...]]) -> None:
+    def __init__(self, whole: Written, written: WrittenLine, nth: Sequence[int], parts: bytearray) -> None:
         # how many lines before each one of the text are wanted, and where their moves stand, with the library's number
         # for what each leaves out
         self._written, self._nth, self._parts = written, nth, parts
         self._cuts = Cuts(whole, written)
+
+    def _part(self, nth: int) -> Tuple[int, int, int]:
+        start, stop, left_out = MOVES_PART.unpack_from(self._parts, MOVES_PART.size * nth)
+        return start, stop, left_out
 
     def of(self, begin: int, end: int) -> PlainLine:
         """Returns the moves of the lines from one to another as one line."""
         first, last = self._nth[begin], self._nth[end]
         if first == last:
             return _NOTHING
-        start, stop, left_out = self._parts[first]
-        for _, stop, more in self._parts[first + 1 : last]:
+        start, stop, left_out = self._part(first)
+        for nth in range(first + 1, last):
+            _, stop, more = self._part(nth)
             left_out |= more
         return self._cuts.cut(start, stop, left_out)
 
@@ -130,7 +135,7 @@ class Moves:
         first, last = self._nth[begin], self._nth[end]
         if first == last:
             return b"", ()
-        start, stop = self._parts[first][0], self._parts[last - 1][1]
+        start, stop = self._part(first)[0], self._part(last - 1)[1]
         return self._written.line[start:stop], self._written.places[start:stop]
 
 
@@ -182,7 +187,7 @@ class Reader:
                     self._data, len(self._data), self._address, self.count, which, *rooms, *parts
                 ),
             )
-            self._moves[which] = Moves(self.whole, written, nth, list(MOVES_PART.iter_unpack(memoryview(room)[:-1])))
+            self._moves[which] = Moves(self.whole, written, nth, room)
         return self._moves[which]
 
     def solving_part(self, scramble: str, begin: int, end: int) -> Optional[TextPlace]:

@@ -33,7 +33,8 @@ def fault_of(status: int, fault: int, column: int, data: bytes, line: Optional[i
     if status != FAULT:
         return Fault(f"a line has at most {MOST_INPUT:,} bytes", line)
     # what stands before a fault spells moves, so it can be read
-    return LineFault(column, fault_text(fault), line, len(data[: column - 1].decode("utf-8", "replace")) + 1)
+    character = column if data.isascii() else len(data[: column - 1].decode("utf-8", "replace")) + 1
+    return LineFault(column, fault_text(fault), line, character)
 
 
 @lru_cache(maxsize=None)

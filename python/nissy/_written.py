@@ -1,7 +1,6 @@
 """Reads text as solvers write it, by the library: what is no move but is written beside moves becomes a blank or an
 apostrophe, or is left out. What comes of it is a line for the other calls, or it is at fault there."""
 import re
-import struct
 from bisect import bisect_right
 from itertools import accumulate, chain, compress
 from typing import Any, Callable, List, NamedTuple, Optional, Sequence, Tuple, Union, overload
@@ -67,7 +66,7 @@ class WrittenLine(NamedTuple):
     what is left out."""
 
     line: bytes
-    places: Tuple[int, ...]
+    places: Sequence[int]
     left_out: int
 
 
@@ -77,7 +76,8 @@ def written_by(most: int, call: Callable[..., Any]) -> WrittenLine:
     room = _rooms.take() if size <= _rooms.ORDINARY else _rooms.Room(size)
     answer = call(room.address + _PLACE * most, most, room.address, most)
     line = room.memory[_PLACE * most : _PLACE * most + answer.length]
-    places = struct.unpack(f"={answer.length}Q", room.memory[: _PLACE * answer.length])
+    # of a long text there are many, of which most are asked for once
+    places = memoryview(bytes(room.memory[: _PLACE * answer.length])).cast("Q")
     if size <= _rooms.ORDINARY:
         _rooms.put_back(room)
     return WrittenLine(line, places, answer.left_out)
@@ -90,8 +90,9 @@ class Written:
         self.text, self.data = string_of(text), bytes_of(text, "the text")
         # which character each byte is of, and the end; as many as bytes if all are ASCII
         self._characters: Optional[List[int]] = None
-        # where each line begins, once it is asked for
+        # where each line begins, once it is asked for, and whether one ends by two signs
         self._lines: List[int] = []
+        self._has_pairs = "\r\n" in self.text
         self._is_text = _is_utf8(self.data)
         if self._is_text and len(self.data) > len(self.text):
             self._characters = [*(count - 1 for count in accumulate(self.data.translate(_BEGINS))), len(self.text)]
@@ -108,7 +109,7 @@ class Written:
             ends = re.finditer("\r\n|\r|\n", self.text)
             self._lines = [0, *(it.end() for it in ends)]
         # between the two signs of a line's end the next line begins
-        is_between = self.text[at - 1 : at + 1] == "\r\n" if at > 0 else False
+        is_between = self._has_pairs and at > 0 and self.text[at - 1 : at + 1] == "\r\n"
         line = bisect_right(self._lines, at + is_between)
         return TextPlace(at, line, max(at - self._lines[line - 1], 0) + 1)
 
@@ -119,11 +120,11 @@ class Written:
         """Returns a line that was written of this text."""
         return Cuts(self, written).cut(0, len(written.line), written.left_out)
 
-    def signs(self, line: bytes, places: Sequence[int]) -> Optional[Tuple[str, Tuple[int, ...]]]:
+    def signs(self, line: bytes, places: Sequence[int]) -> Optional[Tuple[str, Sequence[int]]]:
         """Returns a line that was written of this text, and the character here of each of its own; nothing if the text
         isn't UTF-8."""
         if self._characters is None and line.isascii():
-            return line.decode("ascii"), tuple(places)
+            return line.decode("ascii"), places
         if not self._is_text:
             return None
         return line.decode(), tuple(map(self.at, compress(places, line.translate(_BEGINS))))
@@ -159,7 +160,7 @@ class Cuts:
         if self._counts is not None:
             begin, end = self._counts[begin], self._counts[end]
         line, places = self._signs
-        return PlainLine(line[begin:end], places[begin:end], _LEFT_OUT[left_out])
+        return PlainLine(line[begin:end], tuple(places[begin:end]), _LEFT_OUT[left_out])
 
 
 def plain_line(text: Text) -> PlainLine:
