@@ -67,7 +67,6 @@ function bestOfAxis(
   return { rows: reductionsInWords(nissy, positionAfter(nissy, scramble, parts).lines.normal, rows), tried };
 }
 
-/** Has the tables of a step built. */
 function build(nissy: Nissy, { step }: { step: Step }) {
   nissy.count(step, "");
 }

@@ -111,7 +111,6 @@ export class Page {
     this.#wayBack.set(placeIn(state));
   }
 
-  /** @param hash of the address */
   async begin(hash: string) {
     const turn = ++this.#turn;
     const { state: read, fault } = readAddress(hash);

@@ -8,7 +8,7 @@ import {
   bestRequest, checkRequest, checksRequest, countRequest, lineAfterRequest, lineRequest, listRequest, optionOf,
   runRequest, scrambleRequest, scramblesRequest, textRequest, type OfEach, type Request, type Rewriting,
 } from "./requests.js";
-import { asString } from "../shared/utf8.js";
+import { asString } from "../shared/bytes.js";
 import { formPlacesOf, tokensOf } from "../text/tokens.js";
 import type { Calls } from "./calls.js";
 

@@ -1,11 +1,12 @@
 // Reads what the engine writes as values, or throws what is wrong.
 import { AXES, CORNER_PLACES, EDGE_PLACES, FORMS, type Check, type Facts } from "../shared/facts.js";
 import { NissyFault, SearchCut, withoutTraces } from "../shared/faults.js";
-import { AXIS_FACTS, CHECK_ANSWER, FACTS_ANSWER, SEARCH_ANSWER } from "../shared/layout.js";
+import {
+  AXIS_FACTS, CHECK_ANSWER, FACTS_ANSWER, SEARCH_ANSWER, START_FAULT, STATUS, hasValue,
+} from "../shared/layout.js";
 import { STEPS } from "../shared/steps.js";
-import { textIn } from "../shared/utf8.js";
+import { textIn } from "../shared/bytes.js";
 import { bothSidesIn, waysIn, type BestRow, type BestStep } from "../shared/ways.js";
-import { START_FAULT, STATUS, hasValue } from "../engine/status.js";
 import type { Attempt, AttemptDoubt } from "../text/attempts.js";
 import type { FormInText, SeenAttempt } from "../text/attempt-checks.js";
 import type { Sides, Telling } from "./requests.js";
@@ -81,8 +82,6 @@ const NAMES_OF_BEST = ["scramble", "moves so far"];
 const BRACKET = "(".charCodeAt(0);
 const ZERO = "0".charCodeAt(0);
 
-/** @param names of the lines, if they are two
- * @returns what is wrong */
 function errorIn(reply: NoValue & { line?: number }, names: readonly string[]): Error {
   const part = names[Number(reply.line) - 1] ?? "";
   switch (reply.status) {
@@ -97,7 +96,6 @@ function errorIn(reply: NoValue & { line?: number }, names: readonly string[]): 
   }
 }
 
-/** @returns the same, which has a value */
 export function withValue<Reply extends { status: number }>(
   reply: Reply, names: readonly string[] = [],
 ): Exclude<Reply, NoValue> {

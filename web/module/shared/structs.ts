@@ -50,7 +50,6 @@ function putNumber(bytes: Uint8Array, at: number, width: number, number: number)
   }
 }
 
-/** @returns a struct with these numbers */
 export function structOf<Name extends string>({ bytes, at, width }: Struct<Name>, numbers: Record<Name, number>) {
   const made = new Uint8Array(bytes);
   for (const name of Object.keys(numbers) as Name[]) putNumber(made, at[name], width[name], numbers[name]);

@@ -48,7 +48,6 @@ function reductionIn(reached: string[][]) {
   return { step, from, to };
 }
 
-/** The case before each move of those parts that lead from an orientation to a reduction. */
 function passedBy(nissy: Nissy, parts: Part[], positions: Position[], reached: string[][]): string[][] {
   const way = reductionIn(reached);
   return parts.map((part, at) => {
@@ -57,7 +56,6 @@ function passedBy(nissy: Nissy, parts: Part[], positions: Position[], reached: s
   });
 }
 
-/** What the last of some parts would reach on the other side, if it reaches nothing where it is. */
 function reachedOtherwise(nissy: Nissy, scramble: string, parts: Part[], reached: string[][]) {
   const [before, { normal, inverse }] = [parts.slice(0, -1), lastOf(parts)];
   if (newlyReached({ reached }, before.length).length > 0) return [];
@@ -143,8 +141,6 @@ const bestOfReduction = (nissy: Nissy, scramble: string, parts: Part[], { axis }
   nissy.best(scramble, { soFar: bracketed(parts), most: Infinity })
     .find(({ dr }) => stepNamed(dr.step).axis === axis) ?? null;
 
-/** Walks through the candidates of one scramble, each with the reduction that it was kept with, if that may follow
- * it. */
 export function walkKept(
   nissy: Nissy, { scramble, candidates }: { scramble: string; candidates: Candidate[] },
 ): KeptWalk[] {

@@ -63,7 +63,6 @@ export class DeskStrip {
     else keepSheet(this.#desk.shown?.id ?? 0);
   }
 
-  /** Has the desk and the address hold a state. */
   keep(state: State, { isStep, isDrawn = false, isDraft = false }: Keeping) {
     if (!isDraft) this.#hold(state, isDrawn);
     this.#write(state, isStep);

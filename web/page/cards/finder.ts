@@ -29,8 +29,7 @@ export type FoundOnAxis = { rows: Row[]; tried: number };
 /** Of all axes; `count`: of all that are kept. */
 export type Found = FoundOnAxis & { count: number; isWhole: boolean };
 
-/** The rows that aren't seen and are better than the last one that is, or have room below it.
- * @param room for how many rows there is */
+/** The rows that aren't seen and are better than the last one that is, or have room below it. */
 export function betterThan(seen: Row[], rows: Row[], room: number) {
   const known = new Set(seen.map(({ key }) => key));
   const belongs = ({ rank }: Row, at: number) => (seen.length < room ? at < room : rank < lastOf(seen).rank);
@@ -95,7 +94,6 @@ function axesOf({ reached }: Question) {
   return held.length > 0 ? held : ORIENTATIONS.map((_, at) => at);
 }
 
-/** Finds the best of all axes at once. */
 export async function findAll(finders: Calls[], question: Question, tell: (progress: Progress) => void) {
   const axes = axesOf(question);
   const tried = ORIENTATIONS.map(() => 0);

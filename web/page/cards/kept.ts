@@ -152,8 +152,7 @@ export class KeptCandidates {
     if (isFocused && count === 0) part("kept-heading").focus({ preventScroll: true });
   }
 
-  /** Shows what the engine says of the candidates after a scramble, unless it is shown already.
-   * @param written the scramble as it is copied */
+  /** Shows what the engine says of the candidates after a scramble, unless it is shown already. */
   async describe(scramble: string, written: string) {
     const candidates = this.#candidates;
     if (this.#scramble === written && this.#walks.length === candidates.length) return;
@@ -200,7 +199,6 @@ export class KeptCandidates {
     tell(part("kept-count"), this.#candidates.length === 0 ? "" : counted(this.#candidates.length, "line"));
   }
 
-  /** What is pressed or typed in, by its name. */
   #control(name: string) {
     return [...this.#list.querySelectorAll("[data-control]")].find(({ dataset }) => dataset.control === name);
   }
@@ -247,7 +245,6 @@ export class KeptCandidates {
     this.#draw();
   }
 
-  /** Shows those that were chosen beside each other. */
   async #compare() {
     const candidates = this.#candidates;
     const chosen = this.#sorted().filter(({ candidate }) => this.#compared.includes(nameOf(candidate)));

@@ -184,7 +184,6 @@ export class LineSoFar {
         act("Other side", () => this.#replace(index, [{ normal: each.inverse, inverse: each.normal }], 2))));
   }
 
-  /** Puts a field in place of a step. */
   #edit(index: number) {
     const item = part("line-list").children[index];
     const text = bracketed([this.#parts[index]]);
@@ -242,7 +241,6 @@ export class LineSoFar {
     });
   }
 
-  /** Reads what a field has as steps. */
   async #read(field: PageElement, where: HTMLElement, side: Side, use: (added: Part[]) => void) {
     const [text, parts] = [field.value, this.#parts];
     // what was sent twice, or changed since, isn't added; nor is it to another line

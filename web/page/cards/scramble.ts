@@ -120,8 +120,7 @@ export class ScrambleField {
     if (this.#field !== activeElement || !this.#isRead) this.#fold(this.#isRead);
   }
 
-  /** Says why the last text may be read otherwise than it was meant, until anything is changed.
-   * @param doubt null says no more of the last one */
+  /** Says why the last text may be read otherwise than it was meant, until anything is changed. */
   tellDoubt(doubt: AttemptDoubt | null) {
     this.#doubt = doubt;
     showDoubt(part("scramble-doubt"), doubt, this.#lastText);

@@ -64,7 +64,6 @@ export class SolutionList {
   ], () => this.#filtered());
   #groups = part("solutions-groups");
 
-  /** @param calls of its own */
   constructor(private readonly calls: Calls, private readonly acts: ListActs) {
     offerMoves("slack", GREATEST_SLACK);
     part("slack").addEventListener("change", () => acts.change({ slack: Number(part("slack").value) }));
@@ -189,7 +188,6 @@ export class SolutionList {
     takeNamed(this.#groups, next.moves)?.focus();
   }
 
-  /** The cases after a solution, for each reduction that may follow. */
   #casesOf({ cases }: Entry) {
     if (cases === undefined) return [];
     return reductionsAfter(present(this.#list).step).map((step) => (

@@ -18,7 +18,6 @@ export type PageElement = HTMLElement & {
   open: boolean;
 };
 
-/** The element of the page that has this id. */
 export function part(id: string): PageElement {
   const found = document.getElementById(id);
   if (!found) throw new Error(`the page has no part ${id}`);

@@ -39,7 +39,6 @@ export const isOffered = (name: string): name is Step => OFFERED.some((step) => 
 
 export const isReduction = (name: string) => REDUCTIONS.some((step) => step.name === name);
 
-/** @param name that one of these has */
 export const stepNamed = (name: string): OfferedStep => present(OFFERED.find((step) => step.name === name));
 
 export const reductionsAfter = (orientation: string) => REDUCTIONS.filter(({ needs }) => needs === orientation);
@@ -65,7 +64,6 @@ export const titleOf = (step: OfferedStep) =>
 export const openSteps = (reached: string[]) =>
   OFFERED.filter(({ name, needs }) => !reached.includes(name) && (needs === null || reached.includes(needs)));
 
-/** What is reached, each state once. */
 export const statesOf = (reached: string[]) => [...new Set(reached.map((name) => stateOf(stepNamed(name))))];
 
 export const isReduced = (reached: string[]) => reached.some(isReduction);
@@ -83,10 +81,8 @@ export const partOf = ({ normal, inverse }: Part): Part => ({ normal, inverse })
 
 export const partOn = (side: Side, moves: string): Part => ({ normal: "", inverse: "", [side]: moves });
 
-/** What some steps make on a side, in their order. */
 export const movesOn = (parts: readonly Part[], side: Side) => joined(...parts.map((each) => each[side]));
 
-/** The turns of a step on both sides. */
 export const turnsOfStep = (part: Part): string[] => SIDES.flatMap((side) => part[side].split(" ")).filter(Boolean);
 
 /** The moves of some steps, each as a step: of each those on the normal side first. */
@@ -99,7 +95,6 @@ export function sidesOf({ normal, inverse }: Part): Side | "both" {
   return inverse === "" ? "normal" : "inverse";
 }
 
-/** The side on which a step ends. */
 export const lastSideOf = ({ inverse }: Part): Side => (inverse === "" ? "normal" : "inverse");
 
 /** How far a case such as `4c2e` is, to sort by: an edge costs about as much as a corner. */

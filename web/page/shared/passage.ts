@@ -22,7 +22,6 @@ export const signsOfCases = (cases: string[]) =>
   placesOfCases(cases).reduce((sum, at) => sum + SIGN_OF_CASE * cases[at].length + 1, 0);
 
 /** Moves with the cases before them. The style writes these, so that the text is the moves.
- * @param text the moves of a reduction, with brackets
  * @param cases before each of them; none of another step */
 export function withCases(text: string, cases: string[]): (Node | string)[] {
   const [words, start] = [text.split(" "), startOfTrigger(cases)];

@@ -17,7 +17,6 @@ export function showBeginning(state: State) {
   part("kept").hidden = isShown && state.kept.length === 0;
 }
 
-/** Whether a part of the page waits for answers. */
 export const waitsForAnswers = () => document.querySelector('[aria-busy="true"]:not([hidden])') !== null;
 
 /** Hides what an address shows until it is known, so that nothing is seen to move; what takes long is seen before.
