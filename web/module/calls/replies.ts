@@ -31,16 +31,13 @@ export type SolutionsOn<On extends Sides | undefined> = On extends string ? Side
  * If the search was cut, `cut` is there, and the numbers are those of what it found until then. */
 export type Count = { length: number | null; solutions: number; nodes: number; cut?: true };
 
-/** A line that can't be read: the number of its fault, where that is, in bytes and in characters, and the program's
- * words for it. */
+/** A line that can't be read; `text`: the program's words for its fault. */
 export type LineFault = { status: 1; fault: 1 | 2 | 3 | 4 | 5; column: number; character: number; text: string };
 
-/** A cube at which a step can't begin: the step, the one that must hold before, and what the program says of that one.
- */
+/** A cube at which a step can't begin; `start`: the one that must hold before, of which `text` says what is wrong. */
 export type StartFault = { status: 1; fault: 6; step: string; start: string; text: string };
 
-/** How a call on a line ended that has no value: at a fault, or refused for a number out of its range, a line that is
- * too long, or too little room. */
+/** How a call on a line ended that has no value: at a fault, or since a number, its length or the room is refused. */
 export type NoValue = LineFault | StartFault | { status: 2 | 3 | 4 };
 /** Of a call on two lines, of which `line` is at fault: 1, the first, or 2. */
 export type OfTwo = NoValue & { line: number };

@@ -20,8 +20,7 @@ const hasLineFeed = (line: Text) => (typeof line === "string" ? line.includes("\
 
 const TOO_LONG = { status: STATUS.stopped } as const;
 
-/** The piece that begins with this line: it has none of too many bytes, and none with a line feed, which would be
- * two to the module. */
+/** The piece that begins with this line: no line of it is too long, or has a line feed and so would be two. */
 function pieceFrom(lines: (Text | null)[], begin: number) {
   const most = Math.min(lines.length, begin + MOST_LINES);
   let end = begin;

@@ -3,8 +3,7 @@ import { encodedInto, textIn, type Text } from "../shared/bytes.js";
 
 const PAGE = 65_536;
 
-/** A memory of 32-bit addresses has no more. The module cuts an address to 32 bits, so a greater one would be another
- * place. */
+/** A memory of 32-bit addresses has no more: the module would cut a greater one to that of another place. */
 const MOST_BYTES = 65_536 * PAGE;
 
 /** Structs, and the memory for tables, stand at multiples of it. */

@@ -1,5 +1,4 @@
-// What the engine at hand says of a scramble and the moves after it: the cube after each step, what is reached, which
-// steps may follow, and what is told of the reductions after a row of the best.
+// What the engine at hand says of a scramble, the moves after it, the steps that may follow, and lines that are kept.
 import { NissyFault, type FaultParts } from "../../module/shared/faults.js";
 import { lastOf } from "../shared/certain.js";
 import { casesPassed, positionAfter, totalsWith, type Position } from "./position-after.js";

@@ -325,7 +325,6 @@ export class BestContinuations {
     this.#tellRows();
   }
 
-  /** Says how many rows there are, whether more may be shown, and how many wait among them. */
   #tellRows() {
     if (this.#progress === null) return;
     // with those that are still to be found

@@ -1,5 +1,5 @@
-// The desk as the page has it: a strip with a link to each scramble on it and to a new one, what takes one away and
-// brings it back, all of them as a text; and how what is shown comes to the desk, and from there to the page.
+// The desk as the page has it: a strip with a link to each scramble, what takes one away and brings it back; and how
+// what is shown comes to the desk, and from there to the page.
 import { copy } from "../shared/copying.js";
 import { announce, counted, element, part, tell } from "../shared/element.js";
 import { addressOf, emptyState, type State } from "../state/address.js";

@@ -3,8 +3,7 @@ import { lastOf } from "../shared/certain.js";
 import { ORIENTATIONS, type Part, type Side, type Step } from "../shared/offered-steps.js";
 import type { Calls } from "../shared/questions.js";
 
-/** The reduction after an orientation: its moves, what it reaches, its case, and its least length on each side
- * alone. */
+/** The reduction after an orientation; `marks`: what it reaches; `lengths`: the least on each side alone. */
 export type Next = {
   step: Step; part: Part; length: number; marks: string; case: string; lengths: Record<Side, number | null>;
 };

@@ -47,8 +47,7 @@ function casesAfter(walk: KeptWalk): string[] {
   return [...new Set(reached.flatMap(reductionsAfter).map(({ axis }) => `${axisName(axis)} ${cases[axis]}`))];
 }
 
-/** What is seen of a candidate: its steps, each with the cases that it passes and what it reaches, all moves, and what
- * follows. */
+/** What is seen of a candidate: its steps with their cases and what they reach, all moves, and what follows. */
 function stepOf(parts: Part[], walk: KeptWalk | null) {
   const count = lastOf(walk?.totals ?? [0]);
   const total = parts.length > 1 ? `${count} in all` : counted(count, "move");

@@ -1,5 +1,4 @@
-// The card of the line so far: the steps that were taken, each of which may be edited or taken away, undo, moves by
-// hand, the switch of sides, and the whole to copy.
+// The card of the line so far: its steps, which may be edited or taken away, moves by hand, and the whole to copy.
 import { Stopped } from "../../module/shared/faults.js";
 import { thrownError, lastOf } from "../shared/certain.js";
 import { copy, fmcOf, setUps } from "../shared/copying.js";

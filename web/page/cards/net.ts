@@ -1,5 +1,4 @@
-// Draws a cube as a net, as SVG. Each sticker has its colour and its letter, and if pieces are marked a ring and a dot,
-// or a grey.
+// Draws a cube as a net, as SVG: its stickers, with a ring and a dot, or in grey, if pieces are marked.
 import { NET, type NetPlace } from "../../module/shared/stickers.js";
 import { inner } from "../shared/element.js";
 

@@ -1,5 +1,4 @@
-// The card of the scramble: its field, with what was left out of a text and what is at fault, examples, random
-// scrambles, and the fold of it if the page is narrow.
+// The card of the scramble: its field, what was left out of a text and what is at fault, and its fold.
 import { Stopped } from "../../module/shared/faults.js";
 import { announce, announceLater, counted, part, tell } from "../shared/element.js";
 import { emptyState } from "../state/address.js";

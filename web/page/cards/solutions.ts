@@ -1,5 +1,4 @@
-// The list of a step's solutions: grouped by length and, of reductions, by trigger, filtered by turns and by case, and
-// cut if it is long. A list that is looked for gives way to another one, and can be stopped.
+// The list of a step's solutions: grouped by length and trigger, filtered by turns and by case, cut if it is long.
 import { Stopped } from "../../module/shared/faults.js";
 import { thrownError, present } from "../shared/certain.js";
 import { announce, announceLater, counted, element, part, setBusy, spoken, tell } from "../shared/element.js";

@@ -1,5 +1,4 @@
-// Copies: a line as solvers write it on a scoresheet, the scramble on top and then a step a line with what it reaches
-// and how long it is; and how a text comes to the clipboard.
+// Copies: lines as solvers write them, a step a line with what it reaches; and how a text comes to the clipboard.
 import { announce, button, element, part } from "./element.js";
 import { SIDES, bracketed, newlyReached, stateOf, stepNamed, type Part } from "./offered-steps.js";
 import { tellAt } from "./view.js";

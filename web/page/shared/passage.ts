@@ -1,5 +1,4 @@
-// How a reduction goes: its moves with the cases that it passes, `6c6e D' 4c4e F B' L2 D`, set-up and trigger told
-// apart.
+// How a reduction goes: its moves with the cases that it passes, such as `6c6e D' 4c4e F B' L2 D`, and its trigger.
 import { element } from "./element.js";
 
 /** The cases from which solvers know the moves to the end. */
