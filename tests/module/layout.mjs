@@ -29,7 +29,7 @@ for (const [, name, body] of headers.replace(/\/\*[\s\S]*?\*\//g, "").matchAll(/
 }
 
 /** By the names of the headers what the scripts say of each: a struct of the scripts has its name in capitals. */
-const OF_SCRIPTS = Object.fromEntries(Object.entries({ ...layout, ...textLayout }).filter(([, made]) => typeof made === "object" && "bytes" in made)
+const OF_SCRIPTS = Object.fromEntries(Object.entries({ ...layout, ...textLayout }).filter(([, made]) => typeof made === "object")
   .map(([name, made]) => [`nissy_${name.toLowerCase()}`, made]));
 
 same("the structs", Object.keys(OF_SCRIPTS).sort(), [...structs.keys()].filter((name) => !OTHERWISE.includes(name)).sort());

@@ -1,9 +1,8 @@
 // Reads what the engine writes as values, or throws what is wrong.
 import { AXES, CORNER_PLACES, EDGE_PLACES, FORMS, type Check, type Facts } from "../shared/facts.js";
 import { NissyFault, SearchCut, withoutTraces } from "../shared/faults.js";
-import {
-  AXIS_FACTS, CHECK_ANSWER, FACTS_ANSWER, SEARCH_ANSWER, START_FAULT, STATUS, hasValue,
-} from "../shared/layout.js";
+import { AXIS_FACTS, CHECK_ANSWER, FACTS_ANSWER, SEARCH_ANSWER } from "../shared/layout.js";
+import { START_FAULT, STATUS, hasValue } from "../shared/structs.js";
 import { STEPS } from "../shared/steps.js";
 import { textIn } from "../shared/bytes.js";
 import { bothSidesIn, waysIn, type BestRow, type BestStep } from "../shared/ways.js";
@@ -207,7 +206,6 @@ const checkFrom = ({ answer: bytes, at }: Seen): Check => ({
 });
 
 export const factsIn = (reply: Seen | NoValue): Facts => factsFrom(withValue(reply));
-
 export const checkIn = (reply: Seen | OfTwo): Check => checkFrom(withValue(reply, NAMES_OF_CHECK));
 
 function attemptCheckIn({ attempt, seen, place, forms, doubt }: SeenAttempt): AttemptCheck {

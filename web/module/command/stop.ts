@@ -1,6 +1,6 @@
 // What ends the command before its time: a status, and what is said of it.
 import { MOST_INPUT } from "../shared/bytes.js";
-import { STATUS } from "../shared/layout.js";
+import { STATUS } from "../shared/structs.js";
 
 export const OUT_OF_MEMORY = "out of memory";
 export const TOO_LONG = `input longer than ${MOST_INPUT} bytes`;

@@ -1,8 +1,8 @@
 // The search for the best ways on from a scramble and the moves so far, by calls of the module on one length of a first
 // step on one axis each: between them it tells its progress.
-import { STATUS, WAY, WAYS_ANSWER, WAYS_WANTED, hasValue } from "../shared/layout.js";
+import { WAY, WAYS_ANSWER, WAYS_WANTED } from "../shared/layout.js";
 import { STEPS } from "../shared/steps.js";
-import { structOf } from "../shared/structs.js";
+import { STATUS, hasValue, structOf } from "../shared/structs.js";
 import { TABLES, type Instance } from "./instance.js";
 import { refusalOfTwo } from "./line-calls.js";
 import type { BestReply, FoundWays, OfTwo } from "../calls/replies.js";

@@ -1,8 +1,7 @@
 // An instance of the module: how it is called, and its memory with the tables that stay there.
 import type { Text } from "../shared/bytes.js";
-import { HEAD, struct, structOf, type Reading } from "../shared/structs.js";
+import { HEAD, STATUS, struct, structOf, type Reading } from "../shared/structs.js";
 import { InstanceMemory, aligned, roomFor } from "./memory.js";
-import { STATUS } from "../shared/layout.js";
 
 export type Exports = { [name: string]: any };
 

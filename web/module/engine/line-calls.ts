@@ -2,10 +2,9 @@
 // their answer is read as.
 import { MOST_WIDE, characterAt, textIn, type Text } from "../shared/bytes.js";
 import {
-  CHECK_ANSWER, ERROR_ROOM, FACTS_ANSWER, LINE_ANSWER, LINE_ROOM, RUN_ANSWER, SEARCH_ANSWER, SOLUTION, START_FAULT,
-  STATUS, hasValue,
+  CHECK_ANSWER, ERROR_ROOM, FACTS_ANSWER, LINE_ANSWER, LINE_ROOM, RUN_ANSWER, SEARCH_ANSWER, SOLUTION,
 } from "../shared/layout.js";
-import { HEAD, type Struct } from "../shared/structs.js";
+import { HEAD, START_FAULT, STATUS, hasValue, type Struct } from "../shared/structs.js";
 import { ROOM, type Given, type Instance } from "./instance.js";
 import type { RequestOf, Search, SolveRequest } from "../calls/requests.js";
 import type { Answer, LineReply, NoValue, OfTwo, Seen, SolveBytesReply, SolveReply } from "../calls/replies.js";
@@ -14,7 +13,6 @@ import type { Answer, LineReply, NoValue, OfTwo, Seen, SolveBytesReply, SolveRep
 const SOLUTION_ROOMS = [65_536, 4 * 1_048_576, 256 * 1_048_576];
 
 const bound = (most: number): bigint => (most === Infinity ? MOST_WIDE : BigInt(most));
-
 export const boundsOf = ({ limit, slack, most, nodes }: Search): Given[] => [limit, slack, bound(most), bound(nodes)];
 
 const outOf = (reply: LineReply): string => (reply.status === STATUS.done ? reply.out : "");

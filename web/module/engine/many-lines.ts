@@ -1,13 +1,13 @@
 // Searches and facts of many lines. Those that the module takes many of in one call go to it in pieces.
 import { endsAll, type AllReply, type AllRequest } from "../calls/many.js";
-import { CHECK_ANSWER, FACTS_ANSWER, LINES_ANSWER, SEARCH_ANSWER, STATUS, hasValue } from "../shared/layout.js";
+import { CHECK_ANSWER, FACTS_ANSWER, LINES_ANSWER, SEARCH_ANSWER } from "../shared/layout.js";
+import { STATUS, hasValue, type Struct } from "../shared/structs.js";
 import { boundsOf, refusal } from "./line-calls.js";
 import { roomFor } from "./memory.js";
 import { LINE_FEED, encoded, joinedBytes, type Text } from "../shared/bytes.js";
 import type { Given, Instance } from "./instance.js";
 import type { OfEach, Pair } from "../calls/requests.js";
 import type { OneReply } from "../calls/replies.js";
-import type { Struct } from "../shared/structs.js";
 
 /** So many lines go to the module at once, of so many bytes unless the first one has more. */
 const MOST_LINES = 256;

@@ -1,7 +1,7 @@
 // The solutions of a step over both sides of a line, by calls of the module on those of one length.
 import { joinedBytes } from "../shared/bytes.js";
-import { SIDES_ANSWER, SIDES_WANTED, STATUS, WAY_PART, hasValue } from "../shared/layout.js";
-import { structOf } from "../shared/structs.js";
+import { SIDES_ANSWER, SIDES_WANTED, WAY_PART } from "../shared/layout.js";
+import { STATUS, hasValue, structOf } from "../shared/structs.js";
 import { refusal } from "./line-calls.js";
 import type { CountOfSides, FoundParts, NoValue } from "../calls/replies.js";
 import type { Instance } from "./instance.js";

@@ -7,11 +7,8 @@ const encoder = new TextEncoder();
 const decoder = new TextDecoder();
 
 export const encoded = (text: string): Uint8Array => encoder.encode(text);
-
 export const encodedInto = (text: string, bytes: Uint8Array) => encoder.encodeInto(text, bytes);
-
 export const textIn = (bytes: Uint8Array) => decoder.decode(bytes);
-
 export const asString = (text: Text) => (typeof text === "string" ? text : textIn(text));
 
 /** The most bytes of a line or of an input. */

@@ -3,7 +3,7 @@
 import { ToldLines, endsAll, type AllRequest, type ReadOne } from "../calls/many.js";
 import { bestIn, type Best, type BestReply } from "../calls/replies.js";
 import { compiled, type ModuleSource } from "../engine/source.js";
-import { STATUS } from "../shared/layout.js";
+import { STATUS } from "../shared/structs.js";
 import { wholeNumber } from "../shared/bytes.js";
 import { byRank } from "../shared/ways.js";
 import { LaterCalls, unshared, type Ask } from "./later-calls.js";

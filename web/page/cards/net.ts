@@ -5,8 +5,6 @@ import { inner } from "../shared/element.js";
 const SVG = "http://www.w3.org/2000/svg";
 const PITCH = 10;
 const GAP = 2;
-/** The faces in the order of the engine's letters. */
-const FACES = "URFDLB";
 
 function shape(name: string, attributes: Record<string, string | number>) {
   const made = document.createElementNS(SVG, name);
@@ -38,7 +36,7 @@ export const stickerOf = (net: SVGElement, target: Element) =>
   [...net.querySelectorAll(".sticker")].findIndex((sticker) => sticker === target.closest(".sticker"));
 
 function inWords(letters: string) {
-  return [...FACES].map((name, face) => {
+  return [..."URFDLB"].map((name, face) => {
     const rows = [0, 3, 6].map((row) => [...letters.slice(9 * face + row, 9 * face + row + 3)].join(" "));
     return `face ${name}: ${rows.join(", ")}`;
   }).join("; ");

@@ -5,7 +5,6 @@ import type { State } from "../state/address.js";
 
 const EDGE = 16;
 export const areBeside = () => matchMedia("(min-width: 60rem)").matches;
-
 export const isNarrow = () => matchMedia("(max-width: 37.5rem)").matches;
 
 export const isBare = ({ scramble, parts }: State) => scramble.trim() === "" && parts.length === 0;

@@ -35,7 +35,6 @@ function keepInEntry(more: Partial<Place & { sheet: number }>) {
 }
 
 export const keepPlace = () => keepInEntry(placeNow());
-
 export const keepSheet = (sheet: number) => keepInEntry({ sheet });
 
 const AGAIN_AFTER = 1000;
