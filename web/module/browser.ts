@@ -24,7 +24,6 @@ function besideThis() {
   return new Worker(new URL("./worker.js", import.meta.url), { type: "module" });
 }
 
-/** What starts workers. */
 function workersBy(made: () => Worker) {
   if (typeof made !== "function") throw new TypeError("what makes the worker is no function");
   return listenedTo(made, made === besideThis ? place : undefined);

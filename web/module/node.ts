@@ -9,7 +9,6 @@ import type { NewWorker } from "./workers/worker-queue.js";
 
 export * from "./nissy.js";
 
-/** @returns the module that stands beside this file */
 const besideThis = (): Promise<ModuleSource> => readFile(new URL("./nissy.wasm", import.meta.url));
 
 /** A thread, which keeps the process alive as long as it has a call to answer. */

@@ -24,7 +24,6 @@ async function unpacked(name: string) {
   return new Uint8Array(await new Response(readable).arrayBuffer());
 }
 
-/** @param _ the module, and the worker's script */
 async function start([module, script]: [SentModule, Uint8Array]) {
   const newWorker = workersOf(new TextDecoder().decode(script));
   const page = new Page(() => new Calls(newWorker, module), await Reader.start(module));

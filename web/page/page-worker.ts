@@ -23,12 +23,10 @@ const ANY_SCRAMBLE = "R' U' F L2 U2 R2 B2 D R2 U' L2 B2 D' F' L D' U2 B' R' D2 F
 
 const scrambleOf = (nissy: Nissy, { seed }: { seed: bigint }) => nissy.scramble(seed, STREAM, SCRAMBLE_TURNS);
 
-/** What rows are put in order by, as one number: all moves, those of the first step, the pieces of the case, the
- * step. */
+/** What rows are put in order by: all moves, those of the first step, the pieces of the case, the step. */
 const rankOf = (total: number, { length, step }: BestStep, far: number) =>
   ((total * 64 + length) * 64 + far) * 16 + STEPS.indexOf(step);
 
-/** A row as the page has it, with what it reaches in the page's words. */
 function rowInWords({ total, eo, dr, case: name }: BestRow): Row {
   const first = eo ?? dr;
   const { step, length, lengths } = dr;
@@ -50,7 +48,6 @@ function reductionsInWords(nissy: Nissy, now: string, rows: readonly BestRow[]):
   return told;
 }
 
-/** The best of one axis, of which it is told how many were tried. */
 function bestOfAxis(
   nissy: Nissy, { axis, question, most }: { axis: number; question: Question; most: number },
   tell: (tried: number) => void, engine: Engine,
@@ -67,7 +64,6 @@ function bestOfAxis(
   return { rows: reductionsInWords(nissy, positionAfter(nissy, scramble, parts).lines.normal, rows), tried };
 }
 
-/** Has the tables of a step built. */
 function build(nissy: Nissy, { step }: { step: Step }) {
   nissy.count(step, "");
 }
@@ -86,7 +82,6 @@ const ANSWERS = {
 
 export type Answers = typeof ANSWERS;
 
-/** What the page asks: a call by its name, and what it is about. */
 type Asked = { id: number; request: { call: keyof Answers; about: unknown } };
 /** How each is answered, some after they told how far they are. */
 type Answering = (nissy: Nissy, about: unknown, tell: (progress: unknown) => void, engine: Engine) => unknown;

@@ -111,7 +111,6 @@ export class Page {
     this.#wayBack.set(placeIn(state));
   }
 
-  /** @param hash of the address */
   async begin(hash: string) {
     const turn = ++this.#turn;
     const { state: read, fault } = readAddress(hash);
@@ -269,7 +268,6 @@ export class Page {
     this.#desk.keep(this.#state, { isStep: false });
   }
 
-  /** Shows the steps that may follow, and has the best looked for. */
   #showOffers(cube: CubeOfLine, offers: Offer[]) {
     const { scramble, parts, reached } = cube;
     const { list, longer } = this.#state;
@@ -373,7 +371,6 @@ export class Page {
     else tellFailed(unanswered(fault));
   }
 
-  /** Asks again for all that is seen, by other workers. */
   #tryAgain() {
     for (const calls of [this.#calls, this.#keptCalls, this.#byHand, this.#list, this.#best]) calls.end();
     // what the address says may not have been read yet

@@ -8,7 +8,7 @@ import {
   bestRequest, checkRequest, checksRequest, countRequest, lineAfterRequest, lineRequest, listRequest, optionOf,
   runRequest, scrambleRequest, scramblesRequest, textRequest, type OfEach, type Request, type Rewriting,
 } from "./requests.js";
-import { asString } from "../shared/utf8.js";
+import { asString } from "../shared/bytes.js";
 import { formPlacesOf, tokensOf } from "../text/tokens.js";
 import type { Calls } from "./calls.js";
 
@@ -77,8 +77,7 @@ export const TABLE: Record<Exclude<keyof Calls<"now">, "solutions">, Row> = {
   },
 };
 
-/** Gives a class the calls of the table, each made by what it does with a row and what the call is given, and others of
- * its own. */
+/** Gives a class the calls of the table, each made of a row and what the call is given, and others of its own. */
 export function takeCalls<Caller extends object>(
   prototype: Caller, make: (caller: Caller, row: Row, given: unknown[]) => unknown,
   others: Partial<Caller> & ThisType<Caller>,

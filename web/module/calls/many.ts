@@ -2,7 +2,7 @@
 // thrown.
 import { eachOf, readableLine, takenLine, type Text } from "../shared/bytes.js";
 import { SearchCut, inLine, type NissyFault } from "../shared/faults.js";
-import { STATUS } from "../engine/status.js";
+import { STATUS } from "../shared/structs.js";
 import type { OneReply, Seen } from "./replies.js";
 import { toldBy, type OfEach, type Pair, type Telling } from "./requests.js";
 
@@ -97,7 +97,6 @@ export class ToldLines {
     }
   }
 
-  /** @returns what is told of each line, unless that is thrown */
   all(): unknown[] {
     if (this.#failed !== null) throw this.#failed.error;
     return this.#told;

@@ -2,10 +2,10 @@
 import { AXES, CORNER_PLACES, EDGE_PLACES, FORMS, type Check, type Facts } from "../shared/facts.js";
 import { NissyFault, SearchCut, withoutTraces } from "../shared/faults.js";
 import { AXIS_FACTS, CHECK_ANSWER, FACTS_ANSWER, SEARCH_ANSWER } from "../shared/layout.js";
+import { START_FAULT, STATUS, hasValue } from "../shared/structs.js";
 import { STEPS } from "../shared/steps.js";
-import { textIn } from "../shared/utf8.js";
+import { textIn } from "../shared/bytes.js";
 import { bothSidesIn, waysIn, type BestRow, type BestStep } from "../shared/ways.js";
-import { START_FAULT, STATUS, hasValue } from "../engine/status.js";
 import type { Attempt, AttemptDoubt } from "../text/attempts.js";
 import type { FormInText, SeenAttempt } from "../text/attempt-checks.js";
 import type { Sides, Telling } from "./requests.js";
@@ -30,16 +30,13 @@ export type SolutionsOn<On extends Sides | undefined> = On extends string ? Side
  * If the search was cut, `cut` is there, and the numbers are those of what it found until then. */
 export type Count = { length: number | null; solutions: number; nodes: number; cut?: true };
 
-/** A line that can't be read: the number of its fault, where that is, in bytes and in characters, and the program's
- * words for it. */
+/** A line that can't be read; `text`: the program's words for its fault. */
 export type LineFault = { status: 1; fault: 1 | 2 | 3 | 4 | 5; column: number; character: number; text: string };
 
-/** A cube at which a step can't begin: the step, the one that must hold before, and what the program says of that one.
- */
+/** A cube at which a step can't begin; `start`: the one that must hold before, of which `text` says what is wrong. */
 export type StartFault = { status: 1; fault: 6; step: string; start: string; text: string };
 
-/** How a call on a line ended that has no value: at a fault, or refused for a number out of its range, a line that is
- * too long, or too little room. */
+/** How a call on a line ended that has no value: at a fault, or since a number, its length or the room is refused. */
 export type NoValue = LineFault | StartFault | { status: 2 | 3 | 4 };
 /** Of a call on two lines, of which `line` is at fault: 1, the first, or 2. */
 export type OfTwo = NoValue & { line: number };
@@ -81,8 +78,6 @@ const NAMES_OF_BEST = ["scramble", "moves so far"];
 const BRACKET = "(".charCodeAt(0);
 const ZERO = "0".charCodeAt(0);
 
-/** @param names of the lines, if they are two
- * @returns what is wrong */
 function errorIn(reply: NoValue & { line?: number }, names: readonly string[]): Error {
   const part = names[Number(reply.line) - 1] ?? "";
   switch (reply.status) {
@@ -97,7 +92,6 @@ function errorIn(reply: NoValue & { line?: number }, names: readonly string[]): 
   }
 }
 
-/** @returns the same, which has a value */
 export function withValue<Reply extends { status: number }>(
   reply: Reply, names: readonly string[] = [],
 ): Exclude<Reply, NoValue> {
@@ -212,7 +206,6 @@ const checkFrom = ({ answer: bytes, at }: Seen): Check => ({
 });
 
 export const factsIn = (reply: Seen | NoValue): Facts => factsFrom(withValue(reply));
-
 export const checkIn = (reply: Seen | OfTwo): Check => checkFrom(withValue(reply, NAMES_OF_CHECK));
 
 function attemptCheckIn({ attempt, seen, place, forms, doubt }: SeenAttempt): AttemptCheck {

@@ -1,8 +1,7 @@
 // What is asked of the engine, in plain values that a worker can be sent, each checked if it comes from a caller.
 import {
-  bytesOf, eachOf, joinedWords, stringOf, takenLine, wholeNumber, wideNumber, type Text,
+  asString, bytesOf, eachOf, joinedWords, stringOf, takenLine, wholeNumber, wideNumber, type Text,
 } from "../shared/bytes.js";
-import { asString } from "../shared/utf8.js";
 import type { AllRequest } from "./many.js";
 
 export type Rewriting = "invert" | "unniss" | "cleanup" | "facelets";
@@ -17,7 +16,6 @@ type Bounds = { slack: number; most: number; nodes: number; cut: Telling };
 export type Search = Bounds & { step: string; line: Text; limit: number };
 /** `after`: the solution behind which the list begins. */
 export type SolveRequest = Search & { call: "solve"; after?: string };
-/** What many lines may be asked. */
 export type OfEach = SolveRequest
   | Search & { call: "count" }
   | Search & { call: "solveSides"; sides: Sides }
@@ -56,7 +54,6 @@ export type Known = { scrambles?: readonly Text[] | undefined };
  * its inverse alone, or over both, else none; `most`, how many rows, else 20; `nodes`, of each axis in a pool. */
 export type BestWanted = Omit<Wanted, "limit"> & { soFar?: Text | undefined };
 
-/** The most turns of a search. */
 export const MOST_TURNS = 20;
 
 /** How many of the best are told if it isn't said. */
@@ -68,8 +65,7 @@ const MOST_SCRAMBLES = 10_000;
 const MOST_OF_TURN = 3;
 
 /** An option, read once. It is one only if it is the object's own: what objects inherit may be what some script gave to
- * all of them.
- * @param otherwise what it is if it isn't given */
+ * all of them. */
 export function optionOf(options: unknown, name: string, otherwise: unknown = undefined): unknown {
   if (typeof options !== "object" || options === null) throw new TypeError("the options are no object");
   const given = Object.hasOwn(options, name) ? (options as any)[name] : undefined;
@@ -95,16 +91,13 @@ export function runRequest(words: unknown, input: unknown = "", room: unknown = 
 export const lineRequest = <Call extends Rewriting | "facts">(call: Call, line: unknown) =>
   ({ call, line: takenLine(line, "the line") });
 
-/** An option that is a bound, which Infinity and nothing leave open.
- * @param what it is, for the error
- * @param otherwise what it is if it isn't given */
+/** An option that is a bound, which Infinity and nothing leave open. */
 function boundOf(options: unknown, name: string, what: string, otherwise: number = Infinity) {
   const given = optionOf(options, name, otherwise);
   return given === Infinity ? given : wholeNumber(given, `the greatest number of ${what}`, Number.MAX_SAFE_INTEGER);
 }
 
-/** An option that says whether something is thrown.
- * @param otherwise what it is if it isn't given */
+/** An option that says whether something is thrown. */
 export function toldBy(options: unknown, name: string, otherwise: Telling): Telling {
   const given = optionOf(options, name, otherwise);
   if (typeof given !== "string") throw new TypeError(`the option ${name} is no string`);
@@ -112,7 +105,6 @@ export function toldBy(options: unknown, name: string, otherwise: Telling): Tell
   return given;
 }
 
-/** @param what is told, most of which `otherwise` if that isn't said */
 const boundsIn = (options: unknown, what: string, otherwise?: number): Bounds => ({
   slack: wholeNumber(optionOf(options, "slack", 0), "the slack", MOST_TURNS),
   most: boundOf(options, "most", what, otherwise),
@@ -147,7 +139,6 @@ export function listRequest(step: unknown, line: unknown, options: unknown = {})
 /** The options of what is gone through one after another. */
 export const OF_SOLUTIONS = ["limit", "slack"];
 
-/** @param options of which the bounds on the turns count */
 export const solutionsRequest = (step: unknown, line: unknown, options: unknown = {}): SolveRequest =>
   solveRequest(step, line, { limit: optionOf(options, "limit"), slack: optionOf(options, "slack") });
 

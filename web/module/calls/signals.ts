@@ -26,7 +26,6 @@ export function signalOf(options: unknown = {}): AbortSignal | undefined {
   return signal;
 }
 
-/** @returns why it gives calls up */
 export const reasonOf = (signal: AbortSignal): unknown => signal.reason ?? new Stopped();
 
 /** What a signal does once it is given. However many calls and workers have the same signal, this one listens to it for

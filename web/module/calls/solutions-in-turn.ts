@@ -9,7 +9,6 @@ const FIRST_OF_PIECES = 64;
 const MOST_OF_PIECE = 16_384;
 const GROWTH_OF_PIECES = 4;
 
-/** What is asked for the piece after this one, if there is one. */
 function nextPiece(request: SolveRequest, found: Solutions): SolveRequest | null {
   const last = found[found.length - 1];
   if (!found.more || last === undefined) return null;

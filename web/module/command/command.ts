@@ -5,12 +5,11 @@ import { countIn, withValue, type Seen } from "../calls/replies.js";
 import { MOST_TURNS, countRequest, runRequest, solveRequest } from "../calls/requests.js";
 import { Instance } from "../engine/instance.js";
 import { counted, runIn, solvedBytes } from "../engine/line-calls.js";
-import { STATUS } from "../engine/status.js";
-import { LINE_FEED, MOST_INPUT } from "../shared/bytes.js";
+import { LINE_FEED, MOST_INPUT, encoded, textIn } from "../shared/bytes.js";
 import { NissyFault, inLine } from "../shared/faults.js";
 import { SEARCH_ANSWER, SOLUTION } from "../shared/layout.js";
+import { STATUS } from "../shared/structs.js";
 import { isStep } from "../shared/steps.js";
-import { encoded, textIn } from "../shared/utf8.js";
 import { answerInput, split } from "./input-lines.js";
 import { OUT_OF_MEMORY, Stop, TOO_LONG } from "./stop.js";
 import { readSome, writeAll } from "./streams.js";
@@ -53,9 +52,7 @@ const write = (bytes: Uint8Array) => byStream("cannot write", () => writeAll(OUT
 const writeText = (text: string) => write(encoded(text));
 const read = (buffer: Uint8Array) => byStream("cannot read", () => readSome(INPUT, buffer));
 
-/** Makes a run without a search, and writes its output.
- * @param first the number of the input's first line
- * @returns how many bytes it wrote */
+/** Makes a run without a search, writes its output, and says how many bytes that has. */
 function run(instance: Instance, words: string[], input: Uint8Array, first = 1): number {
   const { status, out, err } = runIn(instance, runRequest(words, input, RUN_ROOM));
   write(out);

@@ -1,12 +1,11 @@
 // What ends the command before its time: a status, and what is said of it.
 import { MOST_INPUT } from "../shared/bytes.js";
-import { STATUS } from "../engine/status.js";
+import { STATUS } from "../shared/structs.js";
 
 export const OUT_OF_MEMORY = "out of memory";
 export const TOO_LONG = `input longer than ${MOST_INPUT} bytes`;
 
 export class Stop extends Error {
-  /** @param text the line on standard error */
   constructor(public status: number, public text: string) {
     super(text);
   }

@@ -2,10 +2,9 @@
 // step on one axis each: between them it tells its progress.
 import { WAY, WAYS_ANSWER, WAYS_WANTED } from "../shared/layout.js";
 import { STEPS } from "../shared/steps.js";
-import { structOf } from "../shared/structs.js";
+import { STATUS, hasValue, structOf } from "../shared/structs.js";
 import { TABLES, type Instance } from "./instance.js";
 import { refusalOfTwo } from "./line-calls.js";
-import { STATUS, hasValue } from "./status.js";
 import type { BestReply, FoundWays, OfTwo } from "../calls/replies.js";
 import type { RequestOf } from "../calls/requests.js";
 import type { Follow } from "../calls/signals.js";

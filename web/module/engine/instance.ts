@@ -1,8 +1,7 @@
 // An instance of the module: how it is called, and its memory with the tables that stay there.
 import type { Text } from "../shared/bytes.js";
-import { HEAD, struct, structOf, type Reading } from "../shared/structs.js";
+import { HEAD, STATUS, struct, structOf, type Reading } from "../shared/structs.js";
 import { InstanceMemory, aligned, roomFor } from "./memory.js";
-import { STATUS } from "./status.js";
 
 export type Exports = { [name: string]: any };
 
@@ -31,7 +30,6 @@ export class Instance {
   /** Whether a call began that didn't return: what the module has in its memory is then in no order. */
   isBroken = false;
   memory: InstanceMemory;
-  /** Where answers are written. */
   answer: number;
   /** Where memory begins in which nothing stays after a call. */
   free: number;
@@ -52,13 +50,11 @@ export class Instance {
     return result;
   }
 
-  /** Calls the module by what it is given, which is written into its memory.
-   * @returns where each of these stands */
+  /** Calls the module by what it is given, and says where each of these stands in its memory. */
   ask(name: string, given: readonly Given[]): number[] {
     return this.#ask(name, [BigInt(this.answer)], given).places;
   }
 
-  /** @param words what the call is handed over first */
   #ask(name: string, words: (number | bigint)[], given: readonly Given[]) {
     const places: number[] = [];
     let end = this.free;
@@ -71,8 +67,7 @@ export class Instance {
     return { places, result: this.call((exports) => Reflect.apply(exports[name], undefined, words)) };
   }
 
-  /** Writes what a call is given at a place, and hands over its words.
-   * @returns how many bytes it has there */
+  /** Writes what a call is given, hands over its words, and says how many bytes it has at its place. */
   #hand(words: (number | bigint)[], given: Exclude<Given, number | bigint>, place: number): number {
     const { memory } = this;
     words.push(BigInt(place));

@@ -1,32 +1,23 @@
 // The calls of the module on one line each, or two, and those that read none, runs too: what they are given, and what
 // their answer is read as.
-import { MOST_WIDE, characterAt, type Text } from "../shared/bytes.js";
+import { MOST_WIDE, characterAt, textIn, type Text } from "../shared/bytes.js";
 import {
   CHECK_ANSWER, ERROR_ROOM, FACTS_ANSWER, LINE_ANSWER, LINE_ROOM, RUN_ANSWER, SEARCH_ANSWER, SOLUTION,
 } from "../shared/layout.js";
-import { HEAD, type Struct } from "../shared/structs.js";
-import { textIn } from "../shared/utf8.js";
+import { HEAD, START_FAULT, STATUS, hasValue, type Struct } from "../shared/structs.js";
 import { ROOM, type Given, type Instance } from "./instance.js";
-import { START_FAULT, STATUS, hasValue } from "./status.js";
 import type { RequestOf, Search, SolveRequest } from "../calls/requests.js";
 import type { Answer, LineReply, NoValue, OfTwo, Seen, SolveBytesReply, SolveReply } from "../calls/replies.js";
 
 /** The rooms for solutions, of which the next one is taken if one was too small: they are searched for again then. */
 const SOLUTION_ROOMS = [65_536, 4 * 1_048_576, 256 * 1_048_576];
 
-/** @returns the same for the module */
 const bound = (most: number): bigint => (most === Infinity ? MOST_WIDE : BigInt(most));
-
-/** @returns the bounds of a search, as the module takes them */
 export const boundsOf = ({ limit, slack, most, nodes }: Search): Given[] => [limit, slack, bound(most), bound(nodes)];
 
-/** @returns what was written, nothing if the call has no value */
 const outOf = (reply: LineReply): string => (reply.status === STATUS.done ? reply.out : "");
 
-/** Why a call on a line has no value. The module is asked for the words, so its answer is read before.
- * @param line which was read
- * @param step which is searched
- * @param at where its answer stands in these bytes */
+/** Why a call on a line has no value. The module is asked for the words, so its answer is read before. */
 export function refusal(
   instance: Instance, line: Text = "", step = "", bytes = instance.memory.all, at = instance.answer,
 ): NoValue {
@@ -47,8 +38,7 @@ export function refusalOfTwo(instance: Instance, first: Text, second: Text): OfT
   return { ...refused, column: null, character: null, line } as unknown as OfTwo;
 }
 
-/** A call that writes a line.
- * @param refused why it has none */
+/** A call that writes a line. */
 export function written<Refused extends NoValue>(
   instance: Instance, name: string, given: Given[], refused = (): NoValue | Refused => refusal(instance),
 ): LineReply | Refused {
@@ -70,7 +60,6 @@ export const lineAfterOf = (
 const seen = (instance: Instance, { bytes }: Struct): Seen =>
   ({ status: instance.status as Seen["status"], answer: instance.memory.copy(instance.answer, bytes), at: 0 });
 
-/** @param read what was written */
 function solvedIn<Out>(
   instance: Instance, request: SolveRequest, room: number, read: (at: number, length: number) => Out,
 ): Seen & { out: Out } | NoValue {
@@ -140,8 +129,7 @@ function withEnough(
 
 const isRefusedMemory = (answer: Answer) => answer.status === STATUS.stopped && textIn(answer.err) === OUT_OF_MEMORY;
 
-/** @param room how many bytes the output may take
- * @param lent how many the tables may take */
+/** @param room for the output, and `lent` that for the tables, in bytes */
 function runOnce(instance: Instance, { words, input }: RequestOf<"run">, room: number, lent: number): Answer {
   const { memory } = instance;
   const given = [{ lent }, { text: words }, { text: input }, { room }, { room: ERROR_ROOM }];

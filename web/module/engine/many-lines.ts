@@ -1,15 +1,13 @@
 // Searches and facts of many lines. Those that the module takes many of in one call go to it in pieces.
 import { endsAll, type AllReply, type AllRequest } from "../calls/many.js";
 import { CHECK_ANSWER, FACTS_ANSWER, LINES_ANSWER, SEARCH_ANSWER } from "../shared/layout.js";
+import { STATUS, hasValue, type Struct } from "../shared/structs.js";
 import { boundsOf, refusal } from "./line-calls.js";
 import { roomFor } from "./memory.js";
-import { STATUS, hasValue } from "./status.js";
-import { LINE_FEED, joinedBytes, type Text } from "../shared/bytes.js";
-import { encoded } from "../shared/utf8.js";
+import { LINE_FEED, encoded, joinedBytes, type Text } from "../shared/bytes.js";
 import type { Given, Instance } from "./instance.js";
 import type { OfEach, Pair } from "../calls/requests.js";
 import type { OneReply } from "../calls/replies.js";
-import type { Struct } from "../shared/structs.js";
 
 /** So many lines go to the module at once, of so many bytes unless the first one has more. */
 const MOST_LINES = 256;
@@ -20,11 +18,9 @@ const STRUCTS: { [call: string]: Struct } = { facts: FACTS_ANSWER, count: SEARCH
 
 const hasLineFeed = (line: Text) => (typeof line === "string" ? line.includes("\n") : line.includes(LINE_FEED));
 
-/** The reply to a line of too many bytes. */
 const TOO_LONG = { status: STATUS.stopped } as const;
 
-/** The piece that begins with this line: it has none of too many bytes, and none with a line feed, which would be
- * two to the module. */
+/** The piece that begins with this line: no line of it is too long, or has a line feed and so would be two. */
 function pieceFrom(lines: (Text | null)[], begin: number) {
   const most = Math.min(lines.length, begin + MOST_LINES);
   let end = begin;
@@ -37,15 +33,13 @@ function pieceFrom(lines: (Text | null)[], begin: number) {
   return lines.slice(begin, end) as Text[];
 }
 
-/** @returns lines as one text, each with a line feed */
 function joinedLines(lines: Text[]): Text {
   if (lines.every((line) => typeof line === "string")) return `${lines.join("\n")}\n`;
   const feed = Uint8Array.of(LINE_FEED);
   return joinedBytes(lines.flatMap((line) => [typeof line === "string" ? encoded(line) : line, feed]));
 }
 
-/** Takes the reply to the next line.
- * @returns whether it ends the call */
+/** Takes the reply to the next line, and says whether it ends the call. */
 function take(replies: AllReply, request: AllRequest, reply: OneReply): boolean {
   const { count, size, values, others } = replies;
   const isLast = endsAll(request, reply);
@@ -58,8 +52,7 @@ function take(replies: AllReply, request: AllRequest, reply: OneReply): boolean 
 /** What is asked of many lines by one call of the module, of a step if it has one. */
 type Question = { name: string; step?: string; given: (lines: Given, answers: Given) => Given[] };
 
-/** Asks the module of a piece.
- * @returns whether a reply of it ends the call */
+/** Asks the module of a piece, and says whether a reply of it ends the call. */
 function takePiece(
   replies: AllReply, instance: Instance, request: AllRequest, { name, step, given }: Question, lines: Text[],
 ): boolean {
@@ -104,8 +97,7 @@ function replyTo(each: OfEach, line: Text | Pair | null, answer: (asked: OfEach)
   return answer(each.call === "best" ? { ...each, scramble: own } : { ...each, line: own });
 }
 
-/** Answers lines in turn, up to the first whose answer ends the call.
- * @param answer to what is asked of a line by itself */
+/** Answers lines in turn, up to the first whose answer ends the call. */
 export function answerAll(
   instance: Instance, request: AllRequest, answer: (asked: OfEach) => OneReply,
 ): AllReply {

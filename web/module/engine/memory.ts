@@ -1,17 +1,14 @@
 // The memory of an instance of the module: where parts of it stand, and what is written and read there.
-import { encodedInto, textIn } from "../shared/utf8.js";
-import type { Text } from "../shared/bytes.js";
+import { encodedInto, textIn, type Text } from "../shared/bytes.js";
 
 const PAGE = 65_536;
 
-/** A memory of 32-bit addresses has no more. The module cuts an address to 32 bits, so a greater one would be another
- * place. */
+/** A memory of 32-bit addresses has no more: the module would cut a greater one to that of another place. */
 const MOST_BYTES = 65_536 * PAGE;
 
 /** Structs, and the memory for tables, stand at multiples of it. */
 const ALIGNMENT = 16;
 
-/** @returns the first place from this one on at which a part may stand */
 export const aligned = (place: number): number => place + ((ALIGNMENT - (place % ALIGNMENT)) % ALIGNMENT);
 
 /** @returns how many bytes it takes at most: three for a unit of a string */
@@ -32,7 +29,6 @@ export class InstanceMemory {
     if (this.memory.buffer !== this.all.buffer) this.all = new Uint8Array(this.memory.buffer);
   }
 
-  /** @returns so many numbers of eight bytes */
   longs(at: number, count: number): number[] {
     const view = new DataView(this.all.buffer, at, 8 * count);
     const numbers = new Array(count);
@@ -59,7 +55,6 @@ export class InstanceMemory {
     return new Uint8Array(this.all.buffer, at, length);
   }
 
-  /** @returns these bytes, of which nobody else has any */
   copy(at: number, length: number): Uint8Array {
     return this.all.slice(at, at + length);
   }

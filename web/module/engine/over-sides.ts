@@ -1,9 +1,8 @@
 // The solutions of a step over both sides of a line, by calls of the module on those of one length.
 import { joinedBytes } from "../shared/bytes.js";
 import { SIDES_ANSWER, SIDES_WANTED, WAY_PART } from "../shared/layout.js";
-import { structOf } from "../shared/structs.js";
+import { STATUS, hasValue, structOf } from "../shared/structs.js";
 import { refusal } from "./line-calls.js";
-import { STATUS, hasValue } from "./status.js";
 import type { CountOfSides, FoundParts, NoValue } from "../calls/replies.js";
 import type { Instance } from "./instance.js";
 import type { RequestOf } from "../calls/requests.js";

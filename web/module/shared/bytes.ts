@@ -1,7 +1,15 @@
-// What callers hand over, checked: nothing of another type reaches the module, and nobody can change it later.
-import { encoded, textIn } from "./utf8.js";
+// Texts as bytes of UTF-8, and what callers hand over, checked: nothing of another type reaches the module, and nobody
+// can change it later.
 
 export type Text = string | Uint8Array;
+
+const encoder = new TextEncoder();
+const decoder = new TextDecoder();
+
+export const encoded = (text: string): Uint8Array => encoder.encode(text);
+export const encodedInto = (text: string, bytes: Uint8Array) => encoder.encodeInto(text, bytes);
+export const textIn = (bytes: Uint8Array) => decoder.decode(bytes);
+export const asString = (text: Text) => (typeof text === "string" ? text : textIn(text));
 
 /** The most bytes of a line or of an input. */
 export const MOST_INPUT = 16_777_216;
@@ -22,8 +30,7 @@ const KIND = Object.getOwnPropertyDescriptor(Object.getPrototypeOf(Uint8Array.pr
 export const isBytes = (value: unknown): value is Uint8Array => KIND?.call(value) === "Uint8Array";
 
 /** The bytes of a text: those of UTF-8 for a string, and of an array of bytes a copy. Anything else is refused: an
- * object that says of itself how long it is could reach what another caller left in the memory.
- * @param what it is, for the error */
+ * object that says of itself how long it is could reach what another caller left in the memory. */
 export function bytesOf(text: unknown, what: string): Uint8Array {
   if (typeof text === "string") return encoded(text);
   if (!isBytes(text)) throw new TypeError(`${what} is neither a string nor a Uint8Array`);
@@ -48,8 +55,7 @@ export function takenLine(line: unknown, what: string): Text {
   return taken;
 }
 
-/** Which character of a line stands at a column, from 1: what stands before a fault spells moves, so it can be read.
- * @param column in bytes from 1 */
+/** Which character of a line stands at a column, from 1: what stands before a fault spells moves, so it can be read. */
 export function characterAt(line: Text, column: number) {
   const bytes = typeof line === "string" ? encoded(line) : line;
   return textIn(bytes.subarray(0, column - 1)).length + 1;
@@ -82,14 +88,12 @@ export function stringOf(value: unknown, what: string): string {
   return value;
 }
 
-/** @returns a whole number from 0 to the most */
 export function wholeNumber(value: unknown, what: string, most: number): number {
   if (typeof value !== "number") throw new TypeError(`${what} is no number`);
   if (Number.isSafeInteger(value) && value >= 0 && value <= most) return value;
   throw new RangeError(`${what} is no whole number from 0 to ${most}`);
 }
 
-/** @returns a whole number of 64 bits */
 export function wideNumber(value: unknown, what: string): bigint {
   if (typeof value === "number") return BigInt(wholeNumber(value, what, Number.MAX_SAFE_INTEGER));
   if (typeof value !== "bigint") throw new TypeError(`${what} is neither a number nor a bigint`);

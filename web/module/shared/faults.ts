@@ -24,9 +24,7 @@ function placeInWords(line: number | null, column: number | null, name: string) 
 
 /** A line at fault, in the program's words, or a cube at which a step can't begin. */
 export class NissyFault extends Error {
-  /** @param text what is wrong
-   * @param place null is what isn't given
-   * @param part what the line is called: the message says that in place of its number */
+  /** @param part what the line is called: the message says that in place of its number */
   constructor(text: string, place: Partial<FaultParts>, part = "") {
     const { column = null, character = null, step = null, start = null, line = null } = place;
     super(placeInWords(line, column, part) + text);

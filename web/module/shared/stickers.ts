@@ -34,7 +34,6 @@ const FACE_LETTERS = "URFDLB";
 const unturnedName = (name: string, centres: string) =>
   name.replace(/./gs, (face) => FACE_LETTERS[centres.indexOf(face)] ?? "?");
 
-/** @returns the centres, which are on the faces as those of a cube */
 function centresOf(letters: string): string {
   const centres = /^[URFDLB]{54}$/.test(letters) ? [...FACE_LETTERS].map((_, at) => letters[9 * at + 4]).join("") : "";
   // corners that are corners again, and none as in a mirror, leave no other way than to turn the whole cube

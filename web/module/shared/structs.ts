@@ -1,4 +1,4 @@
-// Structs as C has them: the fields of each in their order, where they stand, and how they are read and written.
+// Structs as C has them: their fields in order, where they stand, how they are read and written; and how calls end.
 
 /** @returns the number of a field, of the struct that begins at a place */
 export type Reading = (bytes: Uint8Array, at: number) => number;
@@ -50,7 +50,6 @@ function putNumber(bytes: Uint8Array, at: number, width: number, number: number)
   }
 }
 
-/** @returns a struct with these numbers */
 export function structOf<Name extends string>({ bytes, at, width }: Struct<Name>, numbers: Record<Name, number>) {
   const made = new Uint8Array(bytes);
   for (const name of Object.keys(numbers) as Name[]) putNumber(made, at[name], width[name], numbers[name]);
@@ -59,3 +58,12 @@ export function structOf<Name extends string>({ bytes, at, width }: Struct<Name>
 
 /** With which each answer of the module begins, of a call on lines that may have a fault, and which of two has it. */
 export const HEAD = struct({ status: 1, fault: 1, line: 1, other: 1, column: 4 });
+
+/** How the calls end: the statuses of their answers. */
+export const STATUS = { done: 0, fault: 1, usage: 2, stopped: 3, room: 4, cut: 5 } as const;
+
+/** Whether an answer of this status has a value. */
+export const hasValue = (status: number) => status === STATUS.done || status === STATUS.cut;
+
+/** The number of the fault that a step can't begin at a cube. */
+export const START_FAULT = 6;

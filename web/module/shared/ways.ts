@@ -29,7 +29,6 @@ const NO_LENGTH = 21;
 const POWERS = ["", "2", "'"];
 const TURNS = [..."UDRLFB"].flatMap((face) => POWERS.map((power) => face + power));
 
-/** @returns a turn, and a quarter turn the other way round too */
 function eitherWay(turn: string): string[] {
   if (turn.endsWith("2")) return [turn];
   return [turn, turn.endsWith("'") ? turn[0] : `${turn}'`];

@@ -5,8 +5,8 @@ import {
   type AttemptDoubt, type FoundAttempt,
 } from "./attempts.js";
 import { refusalOfTwo, rewritten } from "../engine/line-calls.js";
-import { STATUS } from "../engine/status.js";
 import { CHECK_ANSWER } from "../shared/layout.js";
+import { STATUS } from "../shared/structs.js";
 import { formPlacesOf, type FormPlace } from "./tokens.js";
 import { unitOf, type PlainLine, type TextPlace, type TextPlaces } from "./written.js";
 import type { OfTwo, Seen } from "../calls/replies.js";

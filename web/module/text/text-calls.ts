@@ -3,7 +3,7 @@ import {
   KNOWN_ANSWER, KNOWN_PART, MOVES_PART, PART_ANSWER, PLAIN_ANSWER, TEXT_ANSWER, TEXT_LINE,
 } from "./text-layout.js";
 import { aligned } from "../engine/memory.js";
-import { STATUS } from "../engine/status.js";
+import { STATUS } from "../shared/structs.js";
 import type { Exports, Instance } from "../engine/instance.js";
 import { Cuts, type PlainLine, type WrittenLine, type WrittenText } from "./written.js";
 

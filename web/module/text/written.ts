@@ -1,6 +1,6 @@
 // Text as solvers write it, in bytes for the module, and in JavaScript's units for who reads of it: where each byte,
 // each line and each character of it stands.
-import { encoded, textIn } from "../shared/utf8.js";
+import { encoded, textIn } from "../shared/bytes.js";
 
 /** A text as one line: `places` has the place in the text of each of its signs, and `leftOut` names what it hasn't. */
 export type PlainLine = { line: string; places: number[]; leftOut: string[] };

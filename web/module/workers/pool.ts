@@ -3,7 +3,7 @@
 import { ToldLines, endsAll, type AllRequest, type ReadOne } from "../calls/many.js";
 import { bestIn, type Best, type BestReply } from "../calls/replies.js";
 import { compiled, type ModuleSource } from "../engine/source.js";
-import { STATUS } from "../engine/status.js";
+import { STATUS } from "../shared/structs.js";
 import { wholeNumber } from "../shared/bytes.js";
 import { byRank } from "../shared/ways.js";
 import { LaterCalls, unshared, type Ask } from "./later-calls.js";
@@ -14,7 +14,6 @@ import type { PieceReply } from "./serve.js";
 
 const MOST_WORKERS = 1_024;
 
-/** How far all of some requests are. */
 const sumOf = (each: Progress[]): Progress => ({
   done: each.reduce((sum, { done }) => sum + done, 0),
   all: each.reduce((sum: number | null, { all }) => (sum === null || all === null ? null : sum + all), 0),
@@ -73,7 +72,6 @@ class Pieces {
   #done = 0;
   #isQuick = false;
 
-  /** @param workers how many share the pieces */
   constructor(private request: AllRequest, private workers: number, one: ReadOne) {
     this.#told = new ToldLines(request, one);
   }
@@ -127,7 +125,6 @@ class Pieces {
     return areBegun && [...this.#open].every(({ begin }) => begin >= this.#wanted);
   }
 
-  /** @returns what is told of each line, unless that is thrown */
   told(): unknown[] {
     return this.#told.all();
   }

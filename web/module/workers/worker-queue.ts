@@ -38,8 +38,7 @@ const followsAtOnce = ({ call }: Asked, next: Asked) =>
 const errorOf = ({ name, message }: Told["error"]): Error =>
   (name === "RangeError" ? new RangeError(message) : new EngineMissing(message));
 
-/** What starts a worker of a browser.
- * @param place where its script is looked for */
+/** What starts a worker of a browser. */
 export function listenedTo(made: () => Worker, place?: () => string): NewWorker {
   return (took, failed) => {
     const worker = made();
@@ -99,7 +98,6 @@ export class WorkerQueue {
     queueMicrotask(() => this.#sendNext());
   }
 
-  /** @returns what the worker had */
   #ended(seat: Seat): Asked[] {
     seat.worker?.terminate();
     seat.worker = null;
@@ -114,7 +112,6 @@ export class WorkerQueue {
     }
   }
 
-  /** @returns the first worker that may have this request */
   #ready(next: Asked): Seat | undefined {
     return this.#seats.find(({ sent }) => sent.length === 0)
       ?? this.#seats.find(({ sent }) => sent.length < MOST_SENT && followsAtOnce(sent[0], next));

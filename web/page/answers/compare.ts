@@ -26,7 +26,6 @@ function countsOf(nissy: Nissy, step: OfferedStep, side: Side, now: string): Cou
   return counts;
 }
 
-/** The steps that follow: none after a reduction. */
 function stepsAfter(reached: string[]) {
   const open = isReduced(reached) ? [] : openSteps(reached);
   const reductions = open.filter(({ needs }) => needs !== null);

@@ -1,5 +1,4 @@
-// What the engine at hand says of a scramble and the moves after it: the cube after each step, what is reached, which
-// steps may follow, and what is told of the reductions after a row of the best.
+// What the engine at hand says of a scramble, the moves after it, the steps that may follow, and lines that are kept.
 import { NissyFault, type FaultParts } from "../../module/shared/faults.js";
 import { lastOf } from "../shared/certain.js";
 import { casesPassed, positionAfter, totalsWith, type Position } from "./position-after.js";
@@ -48,7 +47,6 @@ function reductionIn(reached: string[][]) {
   return { step, from, to };
 }
 
-/** The case before each move of those parts that lead from an orientation to a reduction. */
 function passedBy(nissy: Nissy, parts: Part[], positions: Position[], reached: string[][]): string[][] {
   const way = reductionIn(reached);
   return parts.map((part, at) => {
@@ -57,7 +55,6 @@ function passedBy(nissy: Nissy, parts: Part[], positions: Position[], reached: s
   });
 }
 
-/** What the last of some parts would reach on the other side, if it reaches nothing where it is. */
 function reachedOtherwise(nissy: Nissy, scramble: string, parts: Part[], reached: string[][]) {
   const [before, { normal, inverse }] = [parts.slice(0, -1), lastOf(parts)];
   if (newlyReached({ reached }, before.length).length > 0) return [];
@@ -143,8 +140,6 @@ const bestOfReduction = (nissy: Nissy, scramble: string, parts: Part[], { axis }
   nissy.best(scramble, { soFar: bracketed(parts), most: Infinity })
     .find(({ dr }) => stepNamed(dr.step).axis === axis) ?? null;
 
-/** Walks through the candidates of one scramble, each with the reduction that it was kept with, if that may follow
- * it. */
 export function walkKept(
   nissy: Nissy, { scramble, candidates }: { scramble: string; candidates: Candidate[] },
 ): KeptWalk[] {

@@ -1,6 +1,4 @@
-// Cubes after a scramble and steps on both sides: as a line on each side, with the clean moves that were made there;
-// how many moves there are in all with those that follow, since some may merge; and the cases that reductions pass on
-// their way.
+// Cubes after a scramble and steps on both sides, how many moves those that follow make in all, and their cases.
 import { present } from "../shared/certain.js";
 import { SIDES, bracketed, joined, movesOn, singleMoves, type Part, type Side } from "../shared/offered-steps.js";
 import type { Axis } from "../../module/shared/facts.js";

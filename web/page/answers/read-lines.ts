@@ -11,7 +11,6 @@ import type { PlainLine } from "../../module/text/written.js";
 
 const FACE_TURNS = /^[UDRLFB2' ]*$/;
 
-/** A cleaned line without turns of the whole cube. */
 function withoutTurns(cleaned: string) {
   const line = cleaned.replace(/[xyz][2']?/g, "").replace(/ +/g, " ").replace(/\( /g, "(").replace(/ \)/g, ")");
   const count = line.match(/[UDRLFB]/g)?.length ?? 0;

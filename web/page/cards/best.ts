@@ -49,8 +49,7 @@ export class BestContinuations {
   #room = part("best-rows");
   #seen: Row[] = [];
 
-  /** @param finders of its own, one an axis
-   * @param calls that tell more of rows that are seen */
+  /** @param calls that tell more of rows that are seen */
   constructor(private readonly finders: Calls[], calls: Calls, private readonly acts: BestActs) {
     this.#counts = new ShownCounts(calls, this.#body);
     this.#measure = new Measure(() => this.#turnFurther());
@@ -100,8 +99,7 @@ export class BestContinuations {
     this.#ask(isOfReductions ? null : this.#found.shorter({ ...cube, reached, slack: FURTHEST + 1 }));
   }
 
-  /** Shows the card, or hides it, before there are rows: so nothing moves when they come.
-   * @param isBare whether no scramble is there yet */
+  /** Shows the card, or hides it, before there are rows: so nothing moves when they come. */
   expect(reached: string[], isBare: boolean) {
     part("best").hidden = isBare || isReduced(reached);
     document.body.classList.toggle("reduced", !isBare && isReduced(reached));
@@ -273,7 +271,6 @@ export class BestContinuations {
     if (tried > 0) part("best-note").textContent = `${LOOKING_FOR_BEST} ${counted(tried, "way")} tried.`;
   }
 
-  /** @param done how many of all axes are looked through */
   #tellAxes(done: number, all: number) {
     Object.assign(part("best-progress"), { max: all, value: done });
   }
@@ -309,7 +306,6 @@ export class BestContinuations {
     this.acts.shown();
   }
 
-  /** The rows that the filters leave. */
   #rows(progress: Further | null) {
     return this.#filters.left(progress?.rows ?? []) ?? [];
   }
@@ -329,7 +325,6 @@ export class BestContinuations {
     this.#tellRows();
   }
 
-  /** Says how many rows there are, whether more may be shown, and how many wait among them. */
   #tellRows() {
     if (this.#progress === null) return;
     // with those that are still to be found

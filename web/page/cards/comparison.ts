@@ -1,5 +1,4 @@
-// Lines that are kept, two to four beside each other: the nets of both sides with what is left to do, how many steps
-// follow on each, and the first of the best.
+// Lines that are kept beside each other: nets with what is left to do, how many steps follow, the first of the best.
 import { button, counted, element, part, spoken } from "../shared/element.js";
 import { SIDES, bracketed, stateOf, stepNamed, type Part, type Side } from "../shared/offered-steps.js";
 import { showMarked } from "./cube.js";
@@ -55,7 +54,6 @@ function itemOf({ parts, note, next, goOn }: ComparedLine, compared: Compared) {
     button("Go on", { class: "quiet", "aria-label": `Go on: ${spoken(bracketed(parts))}`, click: close }));
 }
 
-/** Shows lines beside each other, until that is closed. */
 export function compare(lines: ComparedLine[], told: Compared[]) {
   part("comparison-lines").replaceChildren(...lines.map((line, at) => itemOf(line, told[at])));
   part("comparison").showModal();

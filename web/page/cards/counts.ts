@@ -23,7 +23,6 @@ export class ShownCounts {
     setBusy(this.body.id, false);
   }
 
-  /** @param shown the rows of the table, in their order */
   tell(question: Question, shown: Row[]) {
     [this.#question, this.#shown] = [question, shown];
     for (const [at, row] of shown.entries()) {

@@ -20,8 +20,7 @@ function marksOf({ badEdges, badCorners, misplacedEdges, case: cases }: Facts, c
   return { pieces: [...badCorners[axis], ...misplacedEdges[axis]], words: cases[axis] };
 }
 
-/** Shows a cube on a net, with what a choice marks of it. @param reached what the line reached, which hides no colour
- * @returns what is said of the marks */
+/** Shows a cube on a net, with what a choice marks of it. @param reached by the line, which hides no colour */
 export function showMarked(net: SVGElement, side: Side, { letters, facts }: View, choice: string, reached = choice) {
   const marks = choice === "" ? null : marksOf(facts, choice);
   const words = marks === null ? "" : `${choice}: ${marks.words}`;

@@ -1,5 +1,5 @@
-// The desk as the page has it: a strip with a link to each scramble on it and to a new one, what takes one away and
-// brings it back, all of them as a text; and how what is shown comes to the desk, and from there to the page.
+// The desk as the page has it: a strip with a link to each scramble, what takes one away and brings it back; and how
+// what is shown comes to the desk, and from there to the page.
 import { copy } from "../shared/copying.js";
 import { announce, counted, element, part, tell } from "../shared/element.js";
 import { addressOf, emptyState, type State } from "../state/address.js";
@@ -63,7 +63,6 @@ export class DeskStrip {
     else keepSheet(this.#desk.shown?.id ?? 0);
   }
 
-  /** Has the desk and the address hold a state. */
   keep(state: State, { isStep, isDrawn = false, isDraft = false }: Keeping) {
     if (!isDraft) this.#hold(state, isDrawn);
     this.#write(state, isStep);

@@ -11,7 +11,6 @@ export type Kind<Row> = { field: string; test: (value: string) => ((row: Row) =>
 
 export const NOT_MOVES = "The text in the filter is not moves: type face turns such as F B'.";
 
-/** Offers numbers of moves, from 0 on. */
 export function offerMoves(name: string, most: number) {
   const counts = Array.from({ length: most + 1 }, (_, count) => count);
   part(name).append(...counts.map((count) => element("option", { value: count }, counted(count, "move"))));
@@ -35,8 +34,7 @@ export function ofCases<Row>(field: string, casesOf: (row: Row) => string[]): Ki
   return { field, test };
 }
 
-/** Offers cases as chips, each with how many rows have it, the nearest first; those that are pressed stay.
- * @param all the cases of each row */
+/** Offers cases as chips, each with how many rows have it, the nearest first; those that are pressed stay. */
 export function offerCases(name: string, all: string[][]) {
   const [field, chips] = [part(name), part(`${name}-chips`)];
   const pressed = pressedIn(field.value);
@@ -87,7 +85,6 @@ export function withTurns<Row>(field: string, movesOf: (row: Row) => string[]): 
   return { field, test };
 }
 
-/** On which sides a step may have moves. */
 const WHERE = ["normal", "inverse", "both sides"];
 const isOn = ({ part: step }: Row, where: string) => sidesOf(step) === where.replace(" sides", "");
 
@@ -105,9 +102,7 @@ export const filtersOfBest = () => [
 
 /** The filters of a card, which says how many of them are on, and if they leave nothing; a button clears them. */
 export class Filters<Row> {
-  /** @param name with which the ids begin
-   * @param note that says what is left
-   * @param changed says whether there are rows that may be left */
+  /** @param changed says whether there are rows that may be left */
   constructor(
     private readonly name: string, note: HTMLElement, public kinds: Kind<Row>[], changed: () => boolean,
   ) {

@@ -3,8 +3,7 @@ import { lastOf } from "../shared/certain.js";
 import { ORIENTATIONS, type Part, type Side, type Step } from "../shared/offered-steps.js";
 import type { Calls } from "../shared/questions.js";
 
-/** The reduction after an orientation: its moves, what it reaches, its case, and its least length on each side
- * alone. */
+/** The reduction after an orientation; `marks`: what it reaches; `lengths`: the least on each side alone. */
 export type Next = {
   step: Step; part: Part; length: number; marks: string; case: string; lengths: Record<Side, number | null>;
 };
@@ -29,8 +28,7 @@ export type FoundOnAxis = { rows: Row[]; tried: number };
 /** Of all axes; `count`: of all that are kept. */
 export type Found = FoundOnAxis & { count: number; isWhole: boolean };
 
-/** The rows that aren't seen and are better than the last one that is, or have room below it.
- * @param room for how many rows there is */
+/** The rows that aren't seen and are better than the last one that is, or have room below it. */
 export function betterThan(seen: Row[], rows: Row[], room: number) {
   const known = new Set(seen.map(({ key }) => key));
   const belongs = ({ rank }: Row, at: number) => (seen.length < room ? at < room : rank < lastOf(seen).rank);
@@ -95,7 +93,6 @@ function axesOf({ reached }: Question) {
   return held.length > 0 ? held : ORIENTATIONS.map((_, at) => at);
 }
 
-/** Finds the best of all axes at once. */
 export async function findAll(finders: Calls[], question: Question, tell: (progress: Progress) => void) {
   const axes = axesOf(question);
   const tried = ORIENTATIONS.map(() => 0);

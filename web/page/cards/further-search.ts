@@ -63,7 +63,6 @@ export class FurtherSearch {
     this.#goOn();
   }
 
-  /** Goes on from what was found. */
   begin(question: Question) {
     this.stop();
     if (question.reached.length > 0 || question.slack >= FURTHEST) return;

@@ -47,8 +47,7 @@ function casesAfter(walk: KeptWalk): string[] {
   return [...new Set(reached.flatMap(reductionsAfter).map(({ axis }) => `${axisName(axis)} ${cases[axis]}`))];
 }
 
-/** What is seen of a candidate: its steps, each with the cases that it passes and what it reaches, all moves, and what
- * follows. */
+/** What is seen of a candidate: its steps with their cases and what they reach, all moves, and what follows. */
 function stepOf(parts: Part[], walk: KeptWalk | null) {
   const count = lastOf(walk?.totals ?? [0]);
   const total = parts.length > 1 ? `${count} in all` : counted(count, "move");
@@ -152,8 +151,7 @@ export class KeptCandidates {
     if (isFocused && count === 0) part("kept-heading").focus({ preventScroll: true });
   }
 
-  /** Shows what the engine says of the candidates after a scramble, unless it is shown already.
-   * @param written the scramble as it is copied */
+  /** Shows what the engine says of the candidates after a scramble, unless it is shown already. */
   async describe(scramble: string, written: string) {
     const candidates = this.#candidates;
     if (this.#scramble === written && this.#walks.length === candidates.length) return;
@@ -200,7 +198,6 @@ export class KeptCandidates {
     tell(part("kept-count"), this.#candidates.length === 0 ? "" : counted(this.#candidates.length, "line"));
   }
 
-  /** What is pressed or typed in, by its name. */
   #control(name: string) {
     return [...this.#list.querySelectorAll("[data-control]")].find(({ dataset }) => dataset.control === name);
   }
@@ -247,7 +244,6 @@ export class KeptCandidates {
     this.#draw();
   }
 
-  /** Shows those that were chosen beside each other. */
   async #compare() {
     const candidates = this.#candidates;
     const chosen = this.#sorted().filter(({ candidate }) => this.#compared.includes(nameOf(candidate)));

@@ -1,5 +1,4 @@
-// The card of the line so far: the steps that were taken, each of which may be edited or taken away, undo, moves by
-// hand, the switch of sides, and the whole to copy.
+// The card of the line so far: its steps, which may be edited or taken away, moves by hand, and the whole to copy.
 import { Stopped } from "../../module/shared/faults.js";
 import { thrownError, lastOf } from "../shared/certain.js";
 import { copy, fmcOf, setUps } from "../shared/copying.js";
@@ -184,7 +183,6 @@ export class LineSoFar {
         act("Other side", () => this.#replace(index, [{ normal: each.inverse, inverse: each.normal }], 2))));
   }
 
-  /** Puts a field in place of a step. */
   #edit(index: number) {
     const item = part("line-list").children[index];
     const text = bracketed([this.#parts[index]]);
@@ -242,7 +240,6 @@ export class LineSoFar {
     });
   }
 
-  /** Reads what a field has as steps. */
   async #read(field: PageElement, where: HTMLElement, side: Side, use: (added: Part[]) => void) {
     const [text, parts] = [field.value, this.#parts];
     // what was sent twice, or changed since, isn't added; nor is it to another line

@@ -52,7 +52,6 @@ export class Measure {
     this.#spent = 0;
   }
 
-  /** Takes down what an axis took of a processor. */
   spend(size: Size, seconds: number) {
     this.#expected += expectedOf(size);
     this.#taken += seconds;
@@ -72,7 +71,6 @@ export class Measure {
     return `about ${counted(Number(count.toPrecision(2)), "EO")}, ${time}`;
   }
 
-  /** How long a processor takes for them, as far as is known. */
   #secondsOf(sizes: Size[]) {
     return sizes.reduce((sum, size) => sum + expectedOf(size), 0) * this.#taken / this.#expected;
   }

@@ -1,13 +1,10 @@
-// Draws a cube as a net, as SVG. Each sticker has its colour and its letter, and if pieces are marked a ring and a dot,
-// or a grey.
+// Draws a cube as a net, as SVG: its stickers, with a ring and a dot, or in grey, if pieces are marked.
 import { NET, type NetPlace } from "../../module/shared/stickers.js";
 import { inner } from "../shared/element.js";
 
 const SVG = "http://www.w3.org/2000/svg";
 const PITCH = 10;
 const GAP = 2;
-/** The faces in the order of the engine's letters. */
-const FACES = "URFDLB";
 
 function shape(name: string, attributes: Record<string, string | number>) {
   const made = document.createElementNS(SVG, name);
@@ -39,7 +36,7 @@ export const stickerOf = (net: SVGElement, target: Element) =>
   [...net.querySelectorAll(".sticker")].findIndex((sticker) => sticker === target.closest(".sticker"));
 
 function inWords(letters: string) {
-  return [...FACES].map((name, face) => {
+  return [..."URFDLB"].map((name, face) => {
     const rows = [0, 3, 6].map((row) => [...letters.slice(9 * face + row, 9 * face + row + 3)].join(" "));
     return `face ${name}: ${rows.join(", ")}`;
   }).join("; ");

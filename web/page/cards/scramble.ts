@@ -1,5 +1,4 @@
-// The card of the scramble: its field, with what was left out of a text and what is at fault, examples, random
-// scrambles, and the fold of it if the page is narrow.
+// The card of the scramble: its field, what was left out of a text and what is at fault, and its fold.
 import { Stopped } from "../../module/shared/faults.js";
 import { announce, announceLater, counted, part, tell } from "../shared/element.js";
 import { emptyState } from "../state/address.js";
@@ -120,8 +119,7 @@ export class ScrambleField {
     if (this.#field !== activeElement || !this.#isRead) this.#fold(this.#isRead);
   }
 
-  /** Says why the last text may be read otherwise than it was meant, until anything is changed.
-   * @param doubt null says no more of the last one */
+  /** Says why the last text may be read otherwise than it was meant, until anything is changed. */
   tellDoubt(doubt: AttemptDoubt | null) {
     this.#doubt = doubt;
     showDoubt(part("scramble-doubt"), doubt, this.#lastText);

@@ -1,5 +1,4 @@
-// The list of a step's solutions: grouped by length and, of reductions, by trigger, filtered by turns and by case, and
-// cut if it is long. A list that is looked for gives way to another one, and can be stopped.
+// The list of a step's solutions: grouped by length and trigger, filtered by turns and by case, cut if it is long.
 import { Stopped } from "../../module/shared/faults.js";
 import { thrownError, present } from "../shared/certain.js";
 import { announce, announceLater, counted, element, part, setBusy, spoken, tell } from "../shared/element.js";
@@ -64,7 +63,6 @@ export class SolutionList {
   ], () => this.#filtered());
   #groups = part("solutions-groups");
 
-  /** @param calls of its own */
   constructor(private readonly calls: Calls, private readonly acts: ListActs) {
     offerMoves("slack", GREATEST_SLACK);
     part("slack").addEventListener("change", () => acts.change({ slack: Number(part("slack").value) }));
@@ -189,7 +187,6 @@ export class SolutionList {
     takeNamed(this.#groups, next.moves)?.focus();
   }
 
-  /** The cases after a solution, for each reduction that may follow. */
   #casesOf({ cases }: Entry) {
     if (cases === undefined) return [];
     return reductionsAfter(present(this.#list).step).map((step) => (

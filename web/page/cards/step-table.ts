@@ -1,5 +1,4 @@
-// The table of the steps that may follow: a row for each, with what solvers choose by, and a cell for each side with
-// the least length, all moves, and how many solutions there are; and what is reached.
+// The table of the steps that may follow: of each what solvers choose it by, and its counts on each side.
 import { counted, element, part } from "../shared/element.js";
 import {
   SIDES, isReduced, stateOf, statesOf, titleOf, type OfferedStep, type Part, type Side, type Step,

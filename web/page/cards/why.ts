@@ -14,8 +14,7 @@ const eitherOf = (axis: string) => axis.replace("/", " or ");
 const whichTells = (faces: string[], axes: string[]) =>
   present(axes.map((axis) => faces.findIndex((face) => axis.includes(face))).find((at) => at >= 0));
 
-/** @param faces where an edge is
- * @param colours that it has there */
+/** @param colours that an edge has on the faces where it is */
 function edgeOriented(faces: string[], colours: string[], axis: string) {
   const [first, last] = TELLING_AXES.filter((each) => each !== axis);
   const axes = [first, axis, last];
@@ -39,8 +38,7 @@ function cornerOriented(faces: string[], colours: string[], axis: string) {
   return `bad for DR ${axis}: its ${colours[at]} belongs on ${eitherOf(axis)}, and is on ${faces[at]}`;
 }
 
-/** @param name where the piece is
- * @param choice what is marked, such as `EO F/B`, or "" for each axis */
+/** @param choice what is marked on the cube, such as `EO F/B`, or "" for each axis */
 export function whyOf(letters: string, name: typeof PIECES[number], choice: string) {
   const [faces, colours] = [[...name], stickersOf([name]).map((place) => letters[place])];
   const [kind, wanted] = choice.split(" ");

@@ -1,5 +1,4 @@
-// Copies: a line as solvers write it on a scoresheet, the scramble on top and then a step a line with what it reaches
-// and how long it is; and how a text comes to the clipboard.
+// Copies: lines as solvers write them, a step a line with what it reaches; and how a text comes to the clipboard.
 import { announce, button, element, part } from "./element.js";
 import { SIDES, bracketed, newlyReached, stateOf, stepNamed, type Part } from "./offered-steps.js";
 import { tellAt } from "./view.js";
@@ -64,7 +63,6 @@ function showUncopied(text: string) {
   announce("The browser doesn't let the page copy. The text is selected: copy it with the keys of your system.");
 }
 
-/** @returns whether it is copied */
 export async function copy(text: string, button: HTMLElement): Promise<boolean> {
   if (text === "") return false;
   let isDone = true;
@@ -80,7 +78,6 @@ export async function copy(text: string, button: HTMLElement): Promise<boolean> 
 }
 
 /** How the cube in one's hands is set up on each side, from solved: premoves, scramble and moves, each to be copied.
- * @param lines that lead there
  * @param of what is there, as it is said after the names of the buttons */
 export const setUps = (lines: Part, of = "") => SIDES.flatMap((side) => [
   element("dt", {}, `Set-up of the ${side} side, from solved`),

@@ -2,23 +2,12 @@
 import { present } from "./certain.js";
 
 /** An element of the page, which may be a field, a bar or what folds. */
-export type PageElement = HTMLElement & {
-  value: string;
-  checked: boolean;
-  disabled: boolean;
-  selectedIndex: number;
-  maxLength: number;
-  selectionStart: number;
-  selectionEnd: number;
-  showPopover(): void;
-  showModal(): void;
-  close(): void;
-  setSelectionRange(from: number, to: number): void;
-  max: number;
-  open: boolean;
-};
+export type PageElement = HTMLElement & { showPopover(): void }
+  & Pick<HTMLTextAreaElement, "value" | "disabled" | "maxLength" | "selectionStart" | "selectionEnd">
+  & Pick<HTMLTextAreaElement, "setSelectionRange"> & Pick<HTMLInputElement, "checked">
+  & Pick<HTMLSelectElement, "selectedIndex"> & Pick<HTMLProgressElement, "max">
+  & Pick<HTMLDialogElement, "open" | "showModal" | "close">;
 
-/** The element of the page that has this id. */
 export function part(id: string): PageElement {
   const found = document.getElementById(id);
   if (!found) throw new Error(`the page has no part ${id}`);

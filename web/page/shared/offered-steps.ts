@@ -3,8 +3,8 @@
 // parts of a line, each a step on one side or both.
 import { AXES, type Axis } from "../../module/shared/facts.js";
 import { SIDES, joined, type Moves as Part, type Side } from "../../module/shared/sides.js";
+import { STEPS, startOf, type Step } from "../../module/shared/steps.js";
 import { present } from "./certain.js";
-import type { Step } from "../../module/shared/steps.js";
 
 export { SIDES, bracketed, joined, otherSide, type Moves as Part, type Side } from "../../module/shared/sides.js";
 export type { Step } from "../../module/shared/steps.js";
@@ -12,42 +12,25 @@ export type { Step } from "../../module/shared/steps.js";
 /** Of a reduction `needs` is the orientation that it keeps. */
 export type OfferedStep = { name: Step; axis: Axis; needs: Step | null };
 
-const FACES_OF = { fb: "FB", rl: "RL", ud: "UD" };
-
 /** The two faces of the axis that a face is on, the empty text if it is none. */
 export const facesOnAxisOf = (face: string) =>
-  AXES.map((axis) => FACES_OF[axis]).find((faces) => faces.includes(face)) ?? "";
+  AXES.map((axis) => axis.toUpperCase()).find((faces) => faces.includes(face)) ?? "";
 
-export const ORIENTATIONS: readonly OfferedStep[] = [
-  { name: "eofb", axis: "fb", needs: null },
-  { name: "eorl", axis: "rl", needs: null },
-  { name: "eoud", axis: "ud", needs: null },
-];
+/** The steps that name an axis, such as `eofb` and `drud-eofb`. */
+const OFFERED: readonly OfferedStep[] = STEPS.flatMap((name) =>
+  AXES.filter((axis) => axis === name.slice(2, 4)).map((axis) => ({ name, axis, needs: startOf(name) })));
 
-export const REDUCTIONS: readonly OfferedStep[] = [
-  { name: "drud-eofb", axis: "ud", needs: "eofb" },
-  { name: "drrl-eofb", axis: "rl", needs: "eofb" },
-  { name: "drud-eorl", axis: "ud", needs: "eorl" },
-  { name: "drfb-eorl", axis: "fb", needs: "eorl" },
-  { name: "drrl-eoud", axis: "rl", needs: "eoud" },
-  { name: "drfb-eoud", axis: "fb", needs: "eoud" },
-];
-
-const OFFERED = [...ORIENTATIONS, ...REDUCTIONS];
+export const ORIENTATIONS = OFFERED.filter(({ needs }) => needs === null);
+export const REDUCTIONS = OFFERED.filter(({ needs }) => needs !== null);
 
 export const isOffered = (name: string): name is Step => OFFERED.some((step) => step.name === name);
-
 export const isReduction = (name: string) => REDUCTIONS.some((step) => step.name === name);
-
-/** @param name that one of these has */
 export const stepNamed = (name: string): OfferedStep => present(OFFERED.find((step) => step.name === name));
-
 export const reductionsAfter = (orientation: string) => REDUCTIONS.filter(({ needs }) => needs === orientation);
-
 export const isSide = (name: string): name is Side => SIDES.some((side) => side === name);
 
 /** An axis as solvers write it, such as `F/B`. */
-export const axisName = (axis: Axis) => [...FACES_OF[axis]].join("/");
+export const axisName = (axis: Axis) => [...axis.toUpperCase()].join("/");
 
 export const namesOf = (steps: readonly OfferedStep[]) => steps.map(({ name }) => name);
 
@@ -65,9 +48,7 @@ export const titleOf = (step: OfferedStep) =>
 export const openSteps = (reached: string[]) =>
   OFFERED.filter(({ name, needs }) => !reached.includes(name) && (needs === null || reached.includes(needs)));
 
-/** What is reached, each state once. */
 export const statesOf = (reached: string[]) => [...new Set(reached.map((name) => stateOf(stepNamed(name))))];
-
 export const isReduced = (reached: string[]) => reached.some(isReduction);
 
 /** What a step of a line newly reaches; a reduction says the orientations that hold with it. */
@@ -83,10 +64,7 @@ export const partOf = ({ normal, inverse }: Part): Part => ({ normal, inverse })
 
 export const partOn = (side: Side, moves: string): Part => ({ normal: "", inverse: "", [side]: moves });
 
-/** What some steps make on a side, in their order. */
 export const movesOn = (parts: readonly Part[], side: Side) => joined(...parts.map((each) => each[side]));
-
-/** The turns of a step on both sides. */
 export const turnsOfStep = (part: Part): string[] => SIDES.flatMap((side) => part[side].split(" ")).filter(Boolean);
 
 /** The moves of some steps, each as a step: of each those on the normal side first. */
@@ -99,7 +77,6 @@ export function sidesOf({ normal, inverse }: Part): Side | "both" {
   return inverse === "" ? "normal" : "inverse";
 }
 
-/** The side on which a step ends. */
 export const lastSideOf = ({ inverse }: Part): Side => (inverse === "" ? "normal" : "inverse");
 
 /** How far a case such as `4c2e` is, to sort by: an edge costs about as much as a corner. */

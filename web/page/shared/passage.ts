@@ -1,5 +1,4 @@
-// How a reduction goes: its moves with the cases that it passes, `6c6e D' 4c4e F B' L2 D`, set-up and trigger told
-// apart.
+// How a reduction goes: its moves with the cases that it passes, such as `6c6e D' 4c4e F B' L2 D`, and its trigger.
 import { element } from "./element.js";
 
 /** The cases from which solvers know the moves to the end. */
@@ -22,7 +21,6 @@ export const signsOfCases = (cases: string[]) =>
   placesOfCases(cases).reduce((sum, at) => sum + SIGN_OF_CASE * cases[at].length + 1, 0);
 
 /** Moves with the cases before them. The style writes these, so that the text is the moves.
- * @param text the moves of a reduction, with brackets
  * @param cases before each of them; none of another step */
 export function withCases(text: string, cases: string[]): (Node | string)[] {
   const [words, start] = [text.split(" "), startOfTrigger(cases)];

@@ -77,8 +77,7 @@ export class Calls {
     return value;
   }
 
-  /** Has the tables of some steps built before they are needed, one after another, until questions are given up.
-   * @param axis of which the best will be asked for */
+  /** Has the tables of some steps built before they are needed, one after another, until questions are given up. */
   async ready(steps: Step[], axis?: number) {
     const unready = steps.filter((name) => !this.#ready.has(name));
     const isCold = unready.length > 0;

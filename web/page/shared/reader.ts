@@ -11,7 +11,6 @@ const asItStands = (text: string): PlainLine => ({ line: text, places: Array.fro
 const readBy = (instance: Instance, text: string) => new TextInMemory(instance, new WrittenText(text));
 
 export class Reader {
-
   /** @param instance null if the page has no engine: then all stays as it stands */
   constructor(private readonly instance: Instance | null) {}
 

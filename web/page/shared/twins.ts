@@ -12,8 +12,7 @@ export type Entry = BestStep & { others: string[]; total?: number; cases?: Facts
 const withEnds = (moves: string[], ends: readonly string[]) =>
   [moves, ...ends.map((end) => [...moves.slice(0, moves.length - end.split(" ").length), end])];
 
-/** @param twin last turns, those on the inverse side in brackets
- * @returns those on each side */
+/** The last turns on each side. @param twin those on the inverse side stand in brackets */
 const endsOnSides = (twin: string): string[] => twin.replace(")", "").split(/ ?\(/);
 
 /** The moves on each side of a step, and of its twins. @param twins their last turns */

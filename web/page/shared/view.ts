@@ -5,7 +5,6 @@ import type { State } from "../state/address.js";
 
 const EDGE = 16;
 export const areBeside = () => matchMedia("(min-width: 60rem)").matches;
-
 export const isNarrow = () => matchMedia("(max-width: 37.5rem)").matches;
 
 export const isBare = ({ scramble, parts }: State) => scramble.trim() === "" && parts.length === 0;
@@ -17,7 +16,6 @@ export function showBeginning(state: State) {
   part("kept").hidden = isShown && state.kept.length === 0;
 }
 
-/** Whether a part of the page waits for answers. */
 export const waitsForAnswers = () => document.querySelector('[aria-busy="true"]:not([hidden])') !== null;
 
 /** Hides what an address shows until it is known, so that nothing is seen to move; what takes long is seen before.

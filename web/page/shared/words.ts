@@ -129,9 +129,7 @@ export function showDoubt(where: HTMLElement, doubt: AttemptDoubt | null, text: 
   where.append(element("p", {}, `In doubt: ${WORDS_OF_DOUBTS[reason](wordAt(text, at))}.`), marked(oneLine(text), at));
 }
 
-/** Shows a fault under its field, or takes the last one away.
- * @param plain what the engine read
- * @param text what was typed */
+/** Shows a fault under its field, or takes the last one away. */
 export function showFault(
   where: HTMLElement, field: HTMLElement, plain: PlainLine, fault: Error | null, text: string,
 ) {

@@ -84,7 +84,6 @@ function split(text: string, sign: string, most: number) {
 
 const readParts = (text: string): Part[] => split(text, "~", MOST_PARTS).map(readPart);
 
-/** How many moves longer something may be. */
 const isSlack = (text: string) => /^[0-9]$/.test(text) && Number(text) <= GREATEST_SLACK;
 
 function readList(text: string): List {

@@ -16,7 +16,6 @@ export type NewSheet = { state: State; written: Written | null };
 const DESK = "nissy-desk";
 const MOST_SHEETS = 100;
 
-/** Where a scramble stands in a text that the browser kept, or null. */
 function writtenIn(value: unknown): Written | null {
   const { text, at } = fieldsOf(value);
   return typeof text === "string" && typeof at === "number" ? { text, at } : null;

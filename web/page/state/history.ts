@@ -1,6 +1,5 @@
-// Where one was: with each entry of the browser's history that is left, what had the focus there and how far the page
-// was scrolled is kept, so that Back leads to the same place; the way to a card and back; and the lines that were taken
-// in this session, which lists and the best mark.
+// Where one was: what had the focus and how far the page was scrolled at each entry of the browser's history that is
+// left; the way to a card and back; and the lines that were taken in this session, which lists and the best mark.
 import { addressOf, fitsAddress, type List, type State } from "./address.js";
 import { fieldsOf } from "../shared/certain.js";
 import { part, tell } from "../shared/element.js";
@@ -36,7 +35,6 @@ function keepInEntry(more: Partial<Place & { sheet: number }>) {
 }
 
 export const keepPlace = () => keepInEntry(placeNow());
-
 export const keepSheet = (sheet: number) => keepInEntry({ sheet });
 
 const AGAIN_AFTER = 1000;

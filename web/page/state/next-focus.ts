@@ -6,7 +6,6 @@ export type Where = "list" | "table";
 const SOON_ENOUGH = 1000;
 
 export class NextFocus {
-  /** Where it goes, and from where. */
   #next: { to: Where; from: Element | null } | null = null;
 
   set(to: Where | undefined) {
