@@ -6,15 +6,15 @@ import { bestIn, type BestReply } from "../module/calls/replies.js";
 import { bestRequest } from "../module/calls/requests.js";
 import { serveBy, type Port } from "../module/workers/serve.js";
 import { AXES } from "../module/shared/facts.js";
-import { STEPS, type Step } from "../module/shared/steps.js";
+import type { Step } from "../module/shared/steps.js";
 import { compareLines } from "./answers/compare.js";
 import { orientationsOn } from "./answers/orientations.js";
 import { casesPassed, positionAfter } from "./answers/position-after.js";
 import { readAddressed, readByHand, readWritten } from "./answers/read-lines.js";
 import { rowsOfList } from "./answers/list-rows.js";
 import { afterRow, examine, framesOf, walkKept } from "./answers/examine.js";
-import { bracketed, farnessOf, partOf, stateOf, stepNamed } from "./shared/offered-steps.js";
-import type { BestRow, BestStep } from "../module/shared/ways.js";
+import { bracketed, partOf, stateOf, stepNamed } from "./shared/offered-steps.js";
+import { rankOf, type BestRow } from "../module/shared/ways.js";
 import type { FoundOnAxis, Question, Row } from "./cards/finder.js";
 
 const SCRAMBLE_TURNS = 25;
@@ -23,17 +23,14 @@ const ANY_SCRAMBLE = "R' U' F L2 U2 R2 B2 D R2 U' L2 B2 D' F' L D' U2 B' R' D2 F
 
 const scrambleOf = (nissy: Nissy, { seed }: { seed: bigint }) => nissy.scramble(seed, STREAM, SCRAMBLE_TURNS);
 
-/** What rows are put in order by: all moves, those of the first step, the pieces of the case, the step. */
-const rankOf = (total: number, { length, step }: BestStep, far: number) =>
-  ((total * 64 + length) * 64 + far) * 16 + STEPS.indexOf(step);
-
-function rowInWords({ total, eo, dr, case: name }: BestRow): Row {
+function rowInWords(row: BestRow): Row {
+  const { total, eo, dr, case: name } = row;
   const first = eo ?? dr;
   const { step, length, lengths } = dr;
   const next = eo && { step, part: partOf(dr), length, marks: stateOf(stepNamed(step)), case: name, lengths };
   return {
     total, part: partOf(first), state: stateOf(stepNamed(first.step)), twins: first.twins, passed: [], next,
-    key: [first.step, first.moves, step].join(" "), rank: rankOf(total, first, farnessOf(name)),
+    key: [first.step, first.moves, step].join(" "), rank: rankOf(row),
   };
 }
 

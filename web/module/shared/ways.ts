@@ -80,11 +80,12 @@ export const waysIn = (bytes: Uint8Array) =>
 export const bothSidesIn = (bytes: Uint8Array) => Array.from({ length: bytes.length / WAY_PART.bytes }, (_, at) =>
   stepAt(bytes, at * WAY_PART.bytes) as BestStep);
 
-/** The order of ways on of different axes, which no two of these have in common: by all moves, the length of the first
- * step, the pieces of the case, and the first step. */
-export function byRank(one: BestRow, other: BestRow) {
-  const [first, second] = [one, other].map(({ eo, dr }) => eo ?? dr);
-  const pieces = (row: BestRow) => Number(row.case[0]) + Number(row.case[2]);
-  return one.total - other.total || first.length - second.length || pieces(one) - pieces(other)
-    || STEPS.indexOf(first.step) - STEPS.indexOf(second.step);
+/** What ways on are put in order by: all moves, the length of the first step, the pieces of the case, that step. */
+export function rankOf({ total, eo, dr, case: name }: BestRow) {
+  const { length, step } = eo ?? dr;
+  const pieces = Number(name[0]) + Number(name[2]);
+  return ((total * 64 + length) * 64 + pieces) * 16 + STEPS.indexOf(step);
 }
+
+/** The order of ways on of different axes, no two of which have the same rank. */
+export const byRank = (one: BestRow, other: BestRow) => rankOf(one) - rankOf(other);

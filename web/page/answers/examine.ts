@@ -4,8 +4,8 @@ import { lastOf } from "../shared/certain.js";
 import { casesPassed, positionAfter, totalsWith, type Position } from "./position-after.js";
 import { readScramble, type ReadScramble } from "./read-lines.js";
 import {
-  REDUCTIONS, SIDES, bracketed, isOffered, isReduced, newlyReached, openSteps, partOn, singleMoves, stepNamed,
-  type OfferedStep, type Part, type Side, type Step,
+  REDUCTIONS, SIDES, bracketed, isOffered, isReduced, newlyReached, onOtherSides, openSteps, partOn, singleMoves,
+  stepNamed, type OfferedStep, type Part, type Side, type Step,
 } from "../shared/offered-steps.js";
 import type { BestRow } from "../../module/shared/ways.js";
 import type { Candidate } from "../state/address.js";
@@ -55,10 +55,9 @@ function passedBy(nissy: Nissy, parts: Part[], positions: Position[], reached: s
   });
 }
 
-function reachedOtherwise(nissy: Nissy, scramble: string, parts: Part[], reached: string[][]) {
-  const [before, { normal, inverse }] = [parts.slice(0, -1), lastOf(parts)];
+function reachedOtherwise(nissy: Nissy, scramble: string, before: Part[], part: Part, reached: string[][]) {
   if (newlyReached({ reached }, before.length).length > 0) return [];
-  const line = nissy.lineAfter(scramble, bracketed([...before, { normal: inverse, inverse: normal }]));
+  const line = nissy.lineAfter(scramble, bracketed([...before, onOtherSides(part)]));
   const there = nissy.facts(line).holds.filter(isOffered);
   return newlyReached({ reached: [reached[before.length], there] }, 0);
 }
@@ -74,7 +73,7 @@ function walkOf(nissy: Nissy, scramble: string, parts: Part[]): Walk {
     totals: positions.map(({ count }) => count),
     turns: parts.map((part) => SIDES.reduce((sum, side) => sum + nissy.facts(part[side]).cleanMoves, 0)),
     passed: passedBy(nissy, parts, positions, reached),
-    otherwise: parts.map((_, at) => reachedOtherwise(nissy, scramble, parts.slice(0, at + 1), reached)),
+    otherwise: parts.map((part, at) => reachedOtherwise(nissy, scramble, parts.slice(0, at), part, reached)),
     now: lastOf(positions),
   };
 }

@@ -1,6 +1,6 @@
 // Lines that are kept beside each other: nets with what is left to do, how many steps follow, the first of the best.
 import { button, counted, element, part, spoken } from "../shared/element.js";
-import { SIDES, bracketed, stateOf, stepNamed, type Part, type Side } from "../shared/offered-steps.js";
+import { SIDES, bracketed, nameOfSide, stateOf, stepNamed, type Part, type Side } from "../shared/offered-steps.js";
 import { showMarked } from "./cube.js";
 import { emptyNet } from "./net.js";
 import { caseOfStep } from "./step-table.js";
@@ -13,12 +13,10 @@ export const MOST_COMPARED = 4;
 /** `next`: the best of the reduction that it was kept with. */
 export type ComparedLine = { parts: Part[]; note: string; next: BestRow | null; goOn: () => void };
 
-const NAMES = { normal: "Normal", inverse: "Inverse" };
-
 function netOf(side: Side, view: View, choice: string) {
   const net = emptyNet();
   const words = showMarked(net, side, view, choice);
-  return element("figure", {}, net, element("figcaption", {}, `${NAMES[side]}${words}`));
+  return element("figure", {}, net, element("figcaption", {}, `${nameOfSide(side)}${words}`));
 }
 
 /** Such as `8 ×4, 9 ×31`. */
@@ -27,7 +25,7 @@ const wordsOf = (counts: Counts) => [...counts].flatMap(([length, count], at) =>
 
 function followingOf({ steps, views: { normal: { facts } } }: Compared) {
   if (steps.length === 0) return element("p", { class: "note" }, "No step follows.");
-  const head = SIDES.map((side) => element("th", { scope: "col" }, NAMES[side]));
+  const head = SIDES.map((side) => element("th", { scope: "col" }, nameOfSide(side)));
   const rows = steps.map(({ step, counts }) => element("tr", {},
     element("th", { scope: "row" }, stateOf(step), element("small", {}, ` ${caseOfStep(facts, step)}`)),
     ...SIDES.map((side) => element("td", {}, ...wordsOf(counts[side])))));

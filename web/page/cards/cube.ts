@@ -4,7 +4,9 @@ import { stickersOf } from "../../module/shared/stickers.js";
 import { present } from "../shared/certain.js";
 import { element, part, tell } from "../shared/element.js";
 import { emptyNet, showCube, stickerOf } from "./net.js";
-import { SIDES, axisName, bracketed, newlyReached, singleMoves, type Side } from "../shared/offered-steps.js";
+import {
+  SIDES, axisName, bracketed, nameOfSide, newlyReached, singleMoves, type Side,
+} from "../shared/offered-steps.js";
 import { withCases } from "../shared/passage.js";
 import { PIECES, whyOf } from "./why.js";
 import type { View, Walk } from "../answers/examine.js";
@@ -115,7 +117,7 @@ export class Nets {
     const piece = PIECES[part("piece").selectedIndex - 1];
     const { views, choice } = this.#shown();
     const why = (side: Side) => whyOf(views[side].letters, piece, choice);
-    const sentences = sides.map((side) => `${side === "normal" ? "Normal" : "Inverse"}: ${piece && why(side)}`);
+    const sentences = sides.map((side) => `${nameOfSide(side)}: ${piece && why(side)}`);
     tell(part("why"), piece ? sentences.join(" ") : "");
   }
 

@@ -4,7 +4,8 @@ import { thrownError, lastOf } from "../shared/certain.js";
 import { copy, fmcOf, setUps } from "../shared/copying.js";
 import { announce, button, counted, element, inner, part, spoken, tell, type PageElement } from "../shared/element.js";
 import {
-  bracketed, isReduced, lastSideOf, movesOn, newlyReached, otherSide, statesOf, turnsOfStep, type Part, type Side,
+  bracketed, isReduced, lastSideOf, movesOn, newlyReached, onOtherSides, otherSide, statesOf, turnsOfStep, type Part,
+  type Side,
 } from "../shared/offered-steps.js";
 import { withCases } from "../shared/passage.js";
 import { showFault, wordsOfLeftOut } from "../shared/words.js";
@@ -180,7 +181,7 @@ export class LineSoFar {
       element("span", { class: "step" }, moves, reaches, lost, element("span", { class: "note" }, count), otherwise),
       element("span", { class: "acts" },
         act("Edit", () => this.#edit(index)), act("Remove", () => this.#replace(index, [], 1)),
-        act("Other side", () => this.#replace(index, [{ normal: each.inverse, inverse: each.normal }], 2))));
+        act("Other side", () => this.#replace(index, [onOtherSides(each)], 2))));
   }
 
   #edit(index: number) {

@@ -1,7 +1,7 @@
 // The table of the steps that may follow: of each what solvers choose it by, and its counts on each side.
 import { counted, element, part } from "../shared/element.js";
 import {
-  SIDES, isReduced, stateOf, statesOf, titleOf, type OfferedStep, type Part, type Side, type Step,
+  SIDES, isReduced, nameOfSide, stateOf, statesOf, titleOf, type OfferedStep, type Part, type Side, type Step,
 } from "../shared/offered-steps.js";
 import type { Calls } from "../shared/questions.js";
 import type { Counted, Examined, Offer, Unexamined } from "../answers/examine.js";
@@ -157,7 +157,7 @@ export class StepTable {
     const name = `${step.name}.${side}`;
     const isLeast = least !== null && count.length === least;
     const shortest = isLeast ? ", shortest" : "";
-    return element("td", { "data-side": side === "normal" ? "Normal" : "Inverse" }, element("button", {
+    return element("td", { "data-side": nameOfSide(side) }, element("button", {
       type: "button",
       class: isLeast ? "cell least" : "cell",
       "data-cell": name,

@@ -59,6 +59,12 @@ export function newlyReached({ reached }: { reached: string[][] }, index: number
   return reductions.length > 0 ? reductions : fresh;
 }
 
+/** A side as a heading has it. */
+export const nameOfSide = (side: Side) => (side === "normal" ? "Normal" : "Inverse");
+
+/** A step with what it has on each side on the other one. */
+export const onOtherSides = ({ normal, inverse }: Part): Part => ({ normal: inverse, inverse: normal });
+
 /** The moves of what may have more than these. */
 export const partOf = ({ normal, inverse }: Part): Part => ({ normal, inverse });
 
