@@ -25,8 +25,8 @@ enum class doubt_reason {
     comment = NISSY_COMMENT,
     repetition = NISSY_REPETITION,
     insertion = NISSY_INSERTION,
-    a_part,        // of a check: only some of its steps solve the scramble, or its solution with other brackets
-    which_scramble // of a check: it isn't seen which of the known scrambles this is a solution of
+    a_part = NISSY_A_PART,                // of a check: only some of its steps solve the scramble, or its solution with other brackets
+    which_scramble = NISSY_WHICH_SCRAMBLE // of a check: it isn't seen which of the known scrambles this is a solution of
 };
 
 // A doubt, and where it is seen in the text.
@@ -203,36 +203,20 @@ inline attempt attempt_of(std::string_view text, text_lines lines, place_counter
     return made;
 }
 
-// An attempt, and its lines among those of a text that was read.
-struct found_attempt {
-    nissy::attempt attempt;
-    text_lines lines = {nullptr, nullptr};
-};
-
-// Adds those attempts among some lines that have a scramble.
-inline void add_attempts(std::string_view text, text_lines lines, place_counter &places, std::vector<found_attempt> &attempts) {
-    while (lines.first != lines.last) {
-        const text_lines own = lines.take([](const nissy_text_line &it) { return it.attempt; });
-        if (own.has(is_of_scramble)) attempts.push_back({attempt_of(text, own, places), own});
-    }
-}
-
-// The attempts of a text, by its lines.
-inline std::vector<found_attempt> attempts_of(std::string_view text, const std::vector<nissy_text_line> &all) {
-    std::vector<found_attempt> attempts;
-    place_counter places(text);
-    add_attempts(text, {all.data(), all.data() + all.size()}, places, attempts);
-    if (attempts.empty()) attempts.emplace_back();
-    return attempts;
-}
-
 } // namespace detail
 
 // The attempts of a text as solvers write it, at least one: a scramble, then the steps of its solution, each on a line with a comment or a label,
 // and blocks of candidates after blank lines; and the same of several numbered scrambles. A text of another form is one scramble.
 inline std::vector<attempt> read_attempts(std::string_view text) {
     std::vector<attempt> attempts;
-    for (detail::found_attempt &it : detail::attempts_of(text, detail::lines_in(text))) attempts.push_back(std::move(it.attempt));
+    detail::place_counter places(text);
+    const std::vector<nissy_text_line> all = detail::lines_in(text);
+    detail::text_lines lines = {all.data(), all.data() + all.size()};
+    while (lines.first != lines.last) {
+        const detail::text_lines own = lines.take([](const nissy_text_line &it) { return it.attempt; });
+        if (own.has(detail::is_of_scramble)) attempts.push_back(detail::attempt_of(text, own, places));
+    }
+    if (attempts.empty()) attempts.emplace_back();
     return attempts;
 }
 

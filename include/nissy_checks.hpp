@@ -57,95 +57,83 @@ struct text_places {
     place_counter found, doubted, read;
 };
 
-// Where a part of the steps of an attempt begins that solves its scramble.
-inline std::optional<std::size_t> solving_part(std::string_view text, const found_attempt &found) {
-    const plain steps = moves_in(text, found.lines, NISSY_OF_EACH_STEP);
-    const std::string &scramble = found.attempt.scramble.line;
-    const nissy_part_answer part = nissy_solving_part(bytes(scramble), scramble.size(), bytes(steps.line), steps.line.size());
-    return part.how == NISSY_NO_PART ? std::nullopt : std::optional<std::size_t>(steps.places[part.begin]);
-}
+// Scrambles that are known, one after another, and where each ends.
+struct known_scrambles {
+    std::string bytes;
+    std::vector<std::uint64_t> ends;
+};
 
-// What makes one doubt an attempt that isn't solved.
-inline std::optional<attempt_doubt> doubt_of(std::string_view text, const found_attempt &found, place_counter &places) {
-    if (found.attempt.doubt) return found.attempt.doubt;
-    const std::optional<std::size_t> part = solving_part(text, found);
-    if (!part) return std::nullopt;
-    return attempt_doubt{doubt_reason::a_part, places.at(*part)};
-}
-
-inline attempt_check check_of(std::string_view text, const found_attempt &read, text_places &places) {
-    const attempt &found = read.attempt;
-    attempt_check made = {found, {}, {}, {}, {}, {}};
-    const auto place = [&](const auto &it, const plain &part) { return places.found.at(place_in(part, column_of(it) - 1, text)); };
-    try {
-        // a scramble is read also if nothing solves it
-        const verdict told = check(found.scramble.line, found.solution ? found.solution->line : std::string());
-        if (found.solution) made.check = told;
-        if (!made.check || !told.solved) made.doubt = doubt_of(text, read, places.doubted);
-    } catch (const fault &thrown) {
-        made.fault = thrown;
-        // a scramble that is known has no place in the text
-        const plain &part = thrown.line() == 1 ? found.scramble : found.solution.value();
-        if (thrown.line() == 2 || !part.places.empty()) made.place = place(thrown, part);
-    }
-    if (!made.check) return made;
-    for (const form_place &it : form_places(found.solution->line)) made.forms.push_back({it.text, it.forms, place(it, *found.solution)});
-    return made;
-}
-
-inline found_attempt with_scramble(found_attempt found, std::string_view scramble) {
-    found.attempt.scramble = {std::string(scramble), {}, {}};
-    return found;
-}
-
-inline bool is_same_cube(const std::string &scramble, std::string_view other) {
-    try {
-        return facelets(scramble) == facelets(other);
-    } catch (const std::exception &) {
-        return false;
-    }
-}
-
-// What the library says of a text that has only solutions, of this many scrambles that are known.
-struct known_lines {
+// What the library says of the attempts of a text, or of the solutions of known scrambles, of which it has a part each that has no lines.
+struct told_checks {
     std::vector<nissy_text_line> lines;
     std::vector<nissy_known_part> parts;
+    std::vector<nissy_attempt_check> checks;
 
-    known_lines(std::string_view text, std::size_t count) : lines(line_ends(text) + 1), parts(lines.size()) {
-        std::vector<std::uint64_t> counts(count);
-        const nissy_known_answer told =
-            nissy_known_lines(text_bytes(text), text.size(), lines.data(), lines.size(), parts.data(), parts.size(), counts.data(), count);
-        lines.resize(told.lines);
-        parts.resize(told.parts);
+    explicit told_checks(std::string_view text) : lines(lines_in(text)) {
+        check(text, {});
+        if (checks.empty()) checks.emplace_back();
     }
 
-    // the attempts of a part: the first has what stands there without a scramble, others have one of their own
-    std::vector<found_attempt> attempts(std::string_view text, const nissy_known_part &part, place_counter &places) const {
-        const nissy_text_line *const all = lines.data();
-        const text_lines solution = {all + part.first_line, all + part.solution_end};
-        std::vector<found_attempt> attempts = {{attempt_of(text, solution, places), solution}};
-        attempts[0].attempt.name = words_of(text, part.name_begin, part.name_end);
-        add_attempts(text, {solution.last, all + part.end_line}, places, attempts);
-        return attempts;
+    told_checks(std::string_view text, const std::vector<std::string> &scrambles)
+        : lines(line_ends(text) + 1), parts(scrambles.size() + lines.size()) {
+        known_scrambles known;
+        for (const std::string &scramble : scrambles) {
+            parts[known.ends.size()].scramble = known.ends.size();
+            known.ends.push_back((known.bytes += scramble).size());
+        }
+        std::vector<std::uint64_t> counts(scrambles.size());
+        const nissy_known_answer told = nissy_known_lines(text_bytes(text), text.size(), lines.data(), lines.size(), parts.data() + scrambles.size(),
+                                                          lines.size(), counts.data(), counts.size());
+        lines.resize(told.lines);
+        parts.resize(scrambles.size() + told.parts);
+        check(text, known);
+    }
+
+    text_lines lines_of(const nissy_attempt_check &told) const { return {lines.data() + told.first_line, lines.data() + told.end_line}; }
+
+private:
+    void check(std::string_view text, const known_scrambles &known) {
+        std::size_t most = 0;
+        for (const nissy_text_line &line : lines) most += 6 * (line.comment - line.moves + 1);
+        std::string out(most, '\0');
+        std::vector<std::uint64_t> places(most);
+        checks.resize(lines.size() + parts.size());
+        checks.resize(nissy_check_attempts(text_bytes(text), text.size(), lines.data(), lines.size(), parts.data(), parts.size(),
+                                           text_bytes(known.bytes), known.bytes.size(), known.ends.data(), known.ends.size(),
+                                           reinterpret_cast<std::uint8_t *>(out.data()), most, places.data(), most, checks.data(), checks.size())
+                          .attempts);
     }
 };
 
-// What is said of the attempts of a part of such a text, which is of this scramble, or of none that can be seen.
-inline attempt_check check_of(std::string_view text, std::vector<found_attempt> attempts, std::size_t begin, const std::string *scramble,
-                              text_places &places) {
-    attempt &first = attempts[0].attempt;
-    if (scramble == nullptr) {
-        first.doubt = attempt_doubt{doubt_reason::which_scramble, places.doubted.at(begin)};
-        return {first, {}, {}, {}, {}, first.doubt};
+// What is said of an attempt that was read.
+inline attempt_check check_of(std::string_view text, attempt read, const nissy_attempt_check &told, text_places &places) {
+    attempt_check made = {std::move(read), {}, {}, {}, {}, {}};
+    try {
+        const pair_answer said(told.check);
+        end_unless_read(said.status(), said.code(), said.column(), {}, std::string(said.part()) + ", ");
+        if (told.checked) made.check = said.value();
+    } catch (const fault &thrown) {
+        made.fault = thrown;
+        // a scramble that is known has no place in the text
+        if (told.fault_at != NISSY_NO_PLACE) made.place = places.found.at(told.fault_at);
     }
-    // who writes the scramble too says nothing else by it
-    if (attempts.size() == 2 && !first.solution && is_same_cube(attempts[1].attempt.scramble.line, *scramble)) {
-        attempts[1].attempt.name = first.name;
-        return check_of(text, attempts[1], places);
-    }
-    if (attempts.size() > 1)
-        first.doubt = attempt_doubt{doubt_reason::another_scramble, places.doubted.at(attempts[1].attempt.scramble.places.front())};
-    return check_of(text, with_scramble(attempts[0], *scramble), places);
+    if (told.doubted) made.doubt = attempt_doubt{static_cast<doubt_reason>(told.doubt), places.doubted.at(told.doubt_at)};
+    if (!made.check) return made;
+    const plain &solution = *made.attempt.solution;
+    for (const form_place &it : form_places(solution.line))
+        made.forms.push_back({it.text, it.forms, places.found.at(place_in(solution, it.column - 1, text))});
+    return made;
+}
+
+// The solution of a known scramble, or what may be one.
+inline attempt solution_of(std::string_view text, const text_lines &lines, const nissy_attempt_check &told, const std::vector<std::string> &scrambles,
+                           place_counter &places) {
+    attempt read = attempt_of(text, lines, places);
+    read.name = words_of(text, told.name_begin, told.name_end);
+    if (!lines.has(is_of_scramble) && told.scramble != NISSY_NO_SCRAMBLE) read.scramble = {scrambles[told.scramble], {}, {}};
+    const bool is_of_reading = told.doubt != NISSY_NO_DOUBT && told.doubt != NISSY_A_PART;
+    read.doubt = is_of_reading ? std::optional(attempt_doubt{static_cast<doubt_reason>(told.doubt), places.at(told.doubt_at)}) : std::nullopt;
+    return read;
 }
 
 } // namespace detail
@@ -154,8 +142,9 @@ inline attempt_check check_of(std::string_view text, std::vector<found_attempt> 
 inline std::vector<attempt_check> check_attempts(std::string_view text) {
     std::vector<attempt_check> checks;
     detail::text_places places(text);
-    const std::vector<nissy_text_line> lines = detail::lines_in(text);
-    for (const detail::found_attempt &found : detail::attempts_of(text, lines)) checks.push_back(detail::check_of(text, found, places));
+    const detail::told_checks all(text);
+    for (const nissy_attempt_check &told : all.checks)
+        checks.push_back(detail::check_of(text, detail::attempt_of(text, all.lines_of(told), places.read), told, places));
     return checks;
 }
 
@@ -163,17 +152,17 @@ inline std::vector<attempt_check> check_attempts(std::string_view text) {
 // 2 of 3"; or as many without numbers, in its order. There is a check for each scramble in its order, without a solution if none is found; then one
 // for each part of the text that may be of another scramble, in doubt.
 inline std::vector<attempt_check> check_attempts(std::string_view text, const std::vector<std::string> &scrambles) {
-    std::vector<attempt_check> checks, others;
+    std::vector<attempt_check> checks;
     detail::text_places places(text);
-    for (const std::string &scramble : scrambles) checks.push_back(detail::check_of(text, detail::with_scramble({}, scramble), places));
-    const detail::known_lines known(text, scrambles.size());
-    for (const nissy_known_part &part : known.parts) {
-        const bool is_known = part.scramble != NISSY_NO_SCRAMBLE;
-        const std::string *const scramble = is_known ? &scrambles[part.scramble] : nullptr;
-        attempt_check made = detail::check_of(text, known.attempts(text, part, places.read), part.begin, scramble, places);
-        (is_known ? checks[part.scramble] : others.emplace_back(made)) = std::move(made);
+    const detail::told_checks all(text, scrambles);
+    for (const nissy_attempt_check &told : all.checks) {
+        attempt_check made = detail::check_of(text, detail::solution_of(text, all.lines_of(told), told, scrambles, places.read), told, places);
+        // a scramble is a part too, before those that the text has
+        if (checks.size() < scrambles.size() || told.scramble == NISSY_NO_SCRAMBLE)
+            checks.push_back(std::move(made));
+        else
+            checks[told.scramble] = std::move(made);
     }
-    checks.insert(checks.end(), std::make_move_iterator(others.begin()), std::make_move_iterator(others.end()));
     return checks;
 }
 

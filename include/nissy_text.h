@@ -174,6 +174,49 @@ typedef struct nissy_part_answer {
  * read, or has no moves, doesn't solve. It takes no memory. */
 nissy_part_answer nissy_solving_part(const uint8_t *scramble, size_t scramble_length, const uint8_t *steps, size_t steps_length);
 
+/* What makes one doubt a check too. */
+#define NISSY_A_PART 9          /* a part of the steps solves the scramble, as nissy_solving_part tells */
+#define NISSY_WHICH_SCRAMBLE 10 /* it can't be seen which of the known scrambles it is a solution of */
+
+/* The place of what has none in the text. */
+#define NISSY_NO_PLACE UINT64_MAX
+
+/* What is said of an attempt of a text. */
+typedef struct nissy_attempt_check {
+    uint64_t scramble;   /* which of the known scrambles it is of, from 0, or NISSY_NO_SCRAMBLE */
+    uint64_t name_begin; /* where the head of its part stands; both are 0 without one, and of a text without known scrambles */
+    uint64_t name_end;
+    uint64_t first_line;      /* which of the lines is its first one, from 0 */
+    uint64_t end_line;        /* which is the first after them */
+    uint64_t fault_at;        /* after NISSY_FAULT where it stands in the text; NISSY_NO_PLACE of a known scramble */
+    uint64_t doubt_at;        /* where the doubt is seen */
+    uint8_t doubt;            /* one of nissy_doubt, of its first line that has one, or of the two above */
+    uint8_t doubted;          /* the doubt counts: nothing is at fault, and there is no solution that solves */
+    uint8_t checked;          /* it has a solution, and it can be seen of which scramble: then `check` says more than a fault */
+    nissy_check_answer check; /* what nissy_check says of its scramble and its solution, which is empty if there is none */
+    uint8_t unused[4];        /* nothing, so that it has one size on all systems */
+} nissy_attempt_check;
+
+/* What nissy_check_attempts returns. */
+typedef struct nissy_attempts_answer {
+    uint8_t status;    /* NISSY_DONE or NISSY_ROOM */
+    uint64_t attempts; /* how many there are; of NISSY_ROOM 0 if the moves have no room */
+} nissy_attempts_answer;
+
+/* Checks all attempts of a text that have a scramble, by the lines that nissy_text_lines tells of it: `parts` and `ends` are then empty. Or it
+ * checks the parts that nissy_known_lines tells of a text, with its lines, of as many known scrambles as `ends` has: these stand one after another
+ * in `scrambles`, and each ends there. A part is then the solution of its scramble by its first lines. If one attempt beside them has a scramble,
+ * there is no other solution, and both scrambles make the same cube, that attempt is checked; else one with a scramble is NISSY_ANOTHER_SCRAMBLE. A
+ * part without lines is a scramble without a solution.
+ *
+ * Six bytes and places for each from `moves` to `comment` of a line, and six for each line, are never too few for `out` and `places`, which the call
+ * uses; as many checks as lines and parts aren't either. If the status isn't NISSY_DONE, nothing in the rooms says anything. It takes no memory. Of
+ * nissy.c on a processor with the other order of bytes it takes some for copies, and returns NISSY_STOPPED if that is refused. */
+nissy_attempts_answer nissy_check_attempts(const uint8_t *text, size_t text_length, const nissy_text_line *lines, size_t count,
+                                           const nissy_known_part *parts, size_t parts_count, const uint8_t *scrambles, size_t scrambles_length,
+                                           const uint64_t *ends, size_t known, uint8_t *out, size_t out_room, uint64_t *places, size_t places_room,
+                                           nissy_attempt_check *checks, size_t checks_room);
+
 #ifdef __cplusplus
 }
 #endif

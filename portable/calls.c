@@ -215,20 +215,22 @@ nissy_known_answer nissy_known_lines(const uint8_t *text, size_t text_length, ni
 }
 
 #if NISSY_BYTEWISE
-/* A copy of lines whose numbers have the form of the engine, if there is memory for it. */
-static unsigned char *copied_lines(const nissy_text_line *lines, size_t count) {
-    unsigned char *const made = malloc(count * sizeof *lines + 1);
+/* A copy of rows of this size whose numbers, which begin at this byte of each, have the form of the engine, if there is memory for it. */
+static unsigned char *copied(const void *rows, size_t count, size_t size, size_t first) {
+    unsigned char *const made = malloc(count * size + 1);
     if (made == NULL) return NULL;
-    if (count > 0) memcpy(made, lines, count * sizeof *lines);
+    if (count > 0) memcpy(made, rows, count * size);
     for (size_t at = 0; at < count; at += 1) {
-        for (size_t field = 8; field < sizeof *lines; field += 8) {
+        for (size_t field = first; field < size; field += 8) {
             uint64_t value;
-            memcpy(&value, made + at * sizeof *lines + field, sizeof value);
-            store8(address(made + at * sizeof *lines + field), value);
+            memcpy(&value, made + at * size + field, sizeof value);
+            store8(address(made + at * size + field), value);
         }
     }
     return made;
 }
+
+static unsigned char *copied_lines(const nissy_text_line *lines, size_t count) { return copied(lines, count, sizeof *lines, 8); }
 
 /* Where moves stand, in the form of the engine, and in that of C again: how many of them are written isn't told. */
 static void put_parts(nissy_moves_part *parts, size_t count) {
@@ -264,3 +266,38 @@ nissy_plain_answer nissy_text_moves(const uint8_t *text, size_t text_length, con
 }
 
 /* --- the calls that the engine has as they are --- */
+
+static nissy_attempts_answer check_attempts(const uint8_t *text, size_t text_length, const void *lines, size_t count, const void *parts,
+                                            size_t parts_count, const uint8_t *scrambles, size_t scrambles_length, const void *ends, size_t known,
+                                            uint8_t *out, size_t out_room, uint64_t *places, size_t places_room, nissy_attempt_check *checks,
+                                            size_t checks_room) {
+    STACK(STACK_OF_nissy_check_attempts);
+    _Alignas(16) unsigned char answer[16];
+    _Static_assert(sizeof(nissy_attempt_check) == 80, "nissy_attempt_check has the size that it has in the engine");
+    w_nissy_check_attempts(STACK_END, address(answer), address(text), text_length, address(lines), count, address(parts), parts_count,
+                           address(scrambles), scrambles_length, address(ends), known, address(out), out_room, address(places), places_room,
+                           address(checks), checks_room);
+    const nissy_attempts_answer said = nissy_attempts_answer_at(address(answer));
+    if (said.status != NISSY_DONE) return said;
+    for (uint64_t at = 0; at < said.attempts; at += 1) checks[at] = nissy_attempt_check_at(address(checks + at));
+    return said;
+}
+
+nissy_attempts_answer nissy_check_attempts(const uint8_t *text, size_t text_length, const nissy_text_line *lines, size_t count,
+                                           const nissy_known_part *parts, size_t parts_count, const uint8_t *scrambles, size_t scrambles_length,
+                                           const uint64_t *ends, size_t known, uint8_t *out, size_t out_room, uint64_t *places, size_t places_room,
+                                           nissy_attempt_check *checks, size_t checks_room) {
+#if NISSY_BYTEWISE
+    unsigned char *const of_lines = copied_lines(lines, count), *const of_parts = copied(parts, parts_count, sizeof *parts, 0),
+                         *const of_ends = copied(ends, known, sizeof *ends, 0);
+    nissy_attempts_answer said = {.status = NISSY_STOPPED};
+    if (of_lines != NULL && of_parts != NULL && of_ends != NULL)
+        said = check_attempts(text, text_length, of_lines, count, of_parts, parts_count, scrambles, scrambles_length, of_ends, known, out, out_room,
+                              places, places_room, checks, checks_room);
+    free(of_lines), free(of_parts), free(of_ends);
+    return said;
+#else
+    return check_attempts(text, text_length, lines, count, parts, parts_count, scrambles, scrambles_length, ends, known, out, out_room, places,
+                          places_room, checks, checks_room);
+#endif
+}

@@ -65,7 +65,7 @@ tried() { # NAME: the test in C of this name
     esac
     ended
 }
-for name in calls pieces facts ways sides text threads fuzz memory handlers; do part tried $name; done
+for name in calls pieces facts ways sides text attempts threads fuzz memory handlers; do part tried $name; done
 
 # the headers in C++, by each compiler that is here
 compiled_by() { # COMPILER PROGRAM WORD..: compiles the test in C++, with these words too

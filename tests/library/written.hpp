@@ -123,12 +123,13 @@ void attempts_are_checked() {
     is_at_fault(nissy::check_attempts("1. R // \xff\n\nR2 \xff U").at(0), "solution", 4, {14, 3, 4}, "one behind such a byte");
     const std::vector<nissy::attempt_check> empty = nissy::check_attempts({});
     holds(empty.size() == 1 && !empty[0].check && !empty[0].fault && empty[0].forms.empty(), "one that is empty", "no text");
-    // valgrind takes half a minute to read so many bytes out of a text, so the attempt is made here
-    nissy::detail::found_attempt of_blanks;
-    of_blanks.attempt.scramble.line.assign(NISSY_MOST_INPUT + 1, ' ');
+    // valgrind takes half a minute to read so many bytes out of a text, so what is said of them is made here
+    nissy_attempt_check of_blanks = {};
+    of_blanks.check.status = NISSY_STOPPED;
+    of_blanks.check.line = 1;
     nissy::detail::text_places places({});
     try {
-        nissy::detail::check_of({}, of_blanks, places);
+        nissy::detail::check_of({}, {}, of_blanks, places);
         holds(0, "it throws", "16,777,217 blanks");
     } catch (const std::length_error &thrown) {
         holds(thrown.what()[0] != 0, "it says what", "16,777,217 blanks");

@@ -1,6 +1,7 @@
 //! The library for C: what other programs call. `include/nissy.h` says the same in the words of C.
 #![tactic(auto)]
 
+mod attempt_call;
 mod best_call;
 mod check_calls;
 mod reading_calls;
@@ -9,11 +10,12 @@ mod table_calls;
 mod text_calls;
 mod version;
 
+pub use attempt_call::nissy_check_attempts;
 pub use best_call::{nissy_best, nissy_line_after, nissy_solve_sides};
 pub use check_calls::{nissy_check, nissy_facts, nissy_facts_lines, nissy_solving_part};
 pub use niss_embed::{
-    Answer, AxisFacts, CheckAnswer, FactsAnswer, LineAfterAnswer, LineAnswer, LinesAnswer,
-    PartAnswer, SearchAnswer, WaysAnswer, WaysWanted,
+    Answer, AttemptCheck, AttemptsAnswer, AxisFacts, CheckAnswer, FactsAnswer, LineAfterAnswer,
+    LineAnswer, LinesAnswer, PartAnswer, SearchAnswer, WaysAnswer, WaysWanted,
 };
 pub use niss_kept::Held;
 pub use niss_ways::{Part, SideTurns, Way};

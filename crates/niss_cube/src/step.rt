@@ -186,6 +186,7 @@ impl Step {
     }
 
     /// Whether the step may start on the cube.
+    #[inline(never)]
     #[tactic(auto, unfolding(crate::specs::Steps::may_start))]
     pub fn may_start(self, cube: &Cube) -> bool
         ensures value { result ≡ may_start self (map_of cube.now) }

@@ -12,3 +12,7 @@ pub mod RestLemmas
 pub mod BestLemmas
 pub mod SidesLemmas
 pub mod PartLemmas
+pub mod AttemptLemmas
+pub mod AttemptRuns
+pub mod CornerLemmas
+pub mod CornerLines

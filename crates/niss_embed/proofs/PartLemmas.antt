@@ -8,6 +8,7 @@ use Rattle.niss_embed.specs.declared.parts.How.{How}
 use Rattle.niss_embed.specs.declared.parts.How.TheVariants.{Alone, LeftOut, InBrackets}
 use Rattle.niss_embed.specs.declared.parts.Part.{Part}
 use Rattle.niss_embed.specs.declared.parts.Found.TheVariants as found
+use Rattle.niss_embed.specs.Corners.{Ascends, AreBounds}
 use Rattle.niss_embed.specs.Parts.{is_end, how_number, part, IsHow, IsPart, IsBefore, IsFirstFrom, IsFound}
 unfoldable use Rattle.niss_embed.specs.Parts.{bounds_of}
 
@@ -71,6 +72,44 @@ unfolding bounds_of
 bounds_few text =
     let few : length (take 8 (ends_to text (length text))) ≤ 8 = few_taken (ends_to text (length text)) (cases_lt (length (ends_to text (length text))) 8) in
     (omega arith, omega (arith, few))
+
+-- Places ascend from one on.
+abbrev AscendFrom : ℕ → List ℕ → Type 0
+AscendFrom a [] = Unit {0}
+AscendFrom a (x ∷ xs) = (a ≤ x) × AscendFrom x xs
+
+filtered_ascend : (test : ℕ → Bool) (a b n : ℕ) → a ≤ b → AscendFrom a (filter test (range_with_len b n))
+filtered_ascend test a b zero le = tt
+filtered_ascend test a b (suc n) le =
+    by_test (test b) (le, filtered_ascend test b (b + 1) n (omega arith)) (filtered_ascend test a (b + 1) n (omega (arith, le)))
+  where
+    rest : List ℕ
+    rest = filter test (range_with_len (b + 1) n)
+
+    by_test : (t : Bool) → AscendFrom a (b ∷ rest) → AscendFrom a rest → AscendFrom a (cond t (b ∷ rest) rest)
+    by_test true taken passed = taken
+    by_test false taken passed = passed
+
+taken_ascend : (n a : ℕ) (xs : List ℕ) → AscendFrom a xs → AscendFrom a (take n xs)
+taken_ascend zero a xs up = tt
+taken_ascend (suc n) a [] up = tt
+taken_ascend (suc n) a (x ∷ xs) up = (up.0, taken_ascend n x xs up.1)
+
+ascend_from : (a : ℕ) (xs : List ℕ) → AscendFrom a xs → Ascends (a ∷ xs)
+ascend_from a [] up k l = absurd (omega (arith, l))
+ascend_from a (x ∷ xs) up zero l = up.0
+ascend_from a (x ∷ xs) up (suc k) l =
+    let next : suc k + 1 ≡ suc (k + 1) = omega arith in
+    rw next (ascend_from x xs up.1 k (omega (arith, l)))
+
+pub are_bounds : (text : List ℕ) → AreBounds (bounds_of text)
+unfolding bounds_of
+are_bounds text =
+    let ends : List ℕ = filter (is_end text) (range_with_len 1 (length text)) in
+    record {
+      begins = refl;
+      ascend = ascend_from 0 (take 8 ends) (taken_ascend 8 0 ends (filtered_ascend (is_end text) 0 1 (length text) (omega arith)));
+    }
 
 pub first_how : (solving : How → Bool) → solving Alone ≡ true → IsHow solving (Some Alone)
 first_how solving is = (is, λ other less. absurd (none other less))

@@ -10,3 +10,6 @@ pub mod TwoLines
 pub mod BestWays
 pub mod ListedSides
 pub mod Parts
+pub mod Attempts
+pub mod Runs
+pub mod Corners

@@ -3,7 +3,7 @@ ghost use Rattle.std.specs.Prelude.{◌≡◌};
 ghost use Rattle.niss_moves.specs.Faults.{fault_column};
 ghost use Rattle.niss_embed.specs.LineCalls.{fault_number};
 ghost use Rattle.niss_embed.specs.LineFacts.{no_facts, no_axis, unchecked};
-ghost use Rattle.niss_embed.specs.declared.answer.Status.TheVariants.{Fault, Stopped};
+ghost use Rattle.niss_embed.specs.declared.answer.Status.TheVariants.{Done, Fault, Stopped};
 
 use crate::answer::{Status, fault_number};
 use niss_moves::ReadFault;
@@ -152,6 +152,13 @@ impl CheckAnswer {
             clean_moves: 0,
             forms: 0,
         }
+    }
+
+    /// The answer if nothing is checked.
+    pub(crate) fn nothing() -> CheckAnswer
+        ensures { result ≡ unchecked Done 0 0 0 }
+    {
+        CheckAnswer::unchecked(Status::Done, 0, 0, 0)
     }
 
     /// The answer if the line of this number has too many bytes.

@@ -23,25 +23,34 @@
 #![tactic(auto)]
 
 mod answer;
+mod attempt_checks;
+mod attempts;
 mod best;
 mod call;
+mod corners;
 mod fact_answers;
+mod known_parts;
 mod line_facts;
 mod line_search;
 mod line_texts;
 mod many_lines;
 mod memory;
 mod parts;
+mod runs;
 mod search_answer;
 mod sides;
 mod sides_answer;
+mod step_corners;
 mod two_lines;
 mod ways_answer;
 
 pub use answer::{Answer, LineAnswer, Status};
+pub use attempt_checks::{AttemptCheck, AttemptsAnswer, check_attempts};
+pub use attempts::Judged;
 pub use best::{best_ways, line_after};
 pub use call::run_bytes;
 pub use fact_answers::{AxisFacts, CheckAnswer, FactsAnswer, LinesAnswer};
+pub use known_parts::Known;
 pub use line_facts::{check_line, facts_of_line};
 pub use line_search::{Wanted, count_line, solve_after, solve_line};
 pub use line_texts::{fault_text, rewrite_line, scramble, start_name, step_names};

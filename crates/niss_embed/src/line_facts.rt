@@ -153,7 +153,7 @@ fn has_small_letters(line: &[u8]) -> bool
 }
 
 /// Whether a line has brackets.
-fn has_brackets(line: &[u8]) -> bool
+pub fn has_brackets(line: &[u8]) -> bool
     ensures { result ≡ list_any is_bracket line.now }
 {
     line.iter().any(|byte| *byte == b'(')

@@ -132,6 +132,7 @@ impl Sink for SolutionLines<'_> {
         (lines_state old.bytes.now old.bytes.ghost_name old.written old.solutions old.most old.first old.too_small)
         (lines_state new.bytes.now new.bytes.ghost_name new.written new.solutions new.most new.first new.too_small) };
 
+    #[inline(never)]
     fn take(&mut self, path: &TurnPath) -> Result<(), Refused> {
         let turns = path.turns();
         line_is_short(turns);
@@ -159,7 +160,7 @@ fn capped(number: u128) -> u64
 
 /// The position that the search begins at: that of the line's cube, if the line is read and the step
 /// may start there.
-fn begin<A: Allocator>(tables: &Tables<A>, line: &[u8]) -> Result<Position, LineFault>
+fn begin<A: Allocator + Copy>(tables: &Tables<A>, line: &[u8]) -> Result<Position, LineFault>
     requires { length line.now ≤ most_bytes }
     ensures { MatchResult result
         (λ position. (e : Place → Place) × (start_cube tables.now (read_line line.now) ≡ Ok e)
@@ -172,7 +173,7 @@ fn begin<A: Allocator>(tables: &Tables<A>, line: &[u8]) -> Result<Position, Line
 }
 
 /// Searches as `search_within` of `niss_search`, within bounds.
-fn search_at_most<K: Sink, A: Allocator>(
+fn search_at_most<K: Sink, A: Allocator + Copy>(
     tables: &Tables<A>,
     position: &Position,
     bounds: Bounds,
@@ -232,7 +233,7 @@ fn was_cut<T, F>(found: &Result<T, Stopped<F>>) -> bool
 }
 
 /// Hands out the solutions from a position.
-fn solve_position<A: Allocator>(
+fn solve_position<A: Allocator + Copy>(
     tables: &Tables<A>,
     position: &Position,
     bounds: Bounds,
@@ -263,7 +264,7 @@ fn solve_position<A: Allocator>(
 /// `slack` turns longer than the least, and at most `most` of them, each on a line as `near` and `solve` write it. One
 /// that has no room ends it, and nothing of it is written. Before it would look at more than `most_nodes` positions it
 /// is cut, with fewer of them left than the step has turns.
-pub fn solve_line<A: Allocator>(
+pub fn solve_line<A: Allocator + Copy>(
     tables: &Tables<A>,
     line: &[u8],
     wanted: Wanted,
@@ -317,6 +318,7 @@ impl Sink for CountedSolutions {
     ghost refused = { λ old path new. CountsNoMore path.turns (count_state old.solutions old.most old.first)
         (count_state new.solutions new.most new.first) };
 
+    #[inline(never)]
     fn take(&mut self, path: &TurnPath) -> Result<(), Refused> {
         self.first = self.first.or(Some(path.turns().len() as u8));
         if self.solutions == self.most {

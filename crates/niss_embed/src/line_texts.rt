@@ -44,6 +44,7 @@ fn put_rewritten(rewriting: Rewriting, line: &Niss, out: &mut [u8]) -> LineAnswe
 
 /// Writes what the program writes of a line's moves, without the line feed: all of it, or nothing if the line has a fault or
 /// the buffer is too small. 2,048 bytes are enough, as for each text of this file.
+#[inline(never)]
 pub fn rewrite_line(rewriting: Rewriting, line: &[u8], out: &mut [u8]) -> LineAnswer
     ensures does { Rewrites rewriting line.now out.old out.new result }
     ensures room { 2048 ≤ length out.old → result.status ≢ status_number NoRoom }

@@ -42,7 +42,7 @@ struct Counts<'a, A: Allocator> {
     wanted: Wanted,
 }
 
-impl<A: Allocator> Question<SearchAnswer> for Counts<'_, A> {
+impl<A: Allocator + Copy> Question<SearchAnswer> for Counts<'_, A> {
     ghost answers = { λ question. CountsLine question.tables.now question.wanted };
 
     fn ask(&self, line: &[u8]) -> SearchAnswer {
@@ -101,7 +101,7 @@ fn answer_lines<T: Copy, Q: Question<T>>(
 }
 
 /// Counts the solutions for each line of a text, as `count_line` does for one, as long as there is room for answers.
-pub fn count_lines<A: Allocator>(
+pub fn count_lines<A: Allocator + Copy>(
     tables: &Tables<A>,
     text: &[u8],
     wanted: Wanted,

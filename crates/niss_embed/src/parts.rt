@@ -1,11 +1,14 @@
 //! Whether a part of the steps of an attempt solves its scramble.
-ghost use Rattle.std.specs.Prelude.{◌≡◌, ◌<◌, ◌≤◌, ◌+◌, ◌-◌, ◌++◌, ℕ, List, [], ◌∷◌, Ok, length, map, take, slice_index, slice_range};
+ghost use Rattle.std.specs.Prelude.{◌≡◌, ◌<◌, ◌≤◌, ◌+◌, ◌-◌, ◌++◌, ℕ, List, [], ◌∷◌, Ok, length, map, take, slice_index, slice_range, IfSome};
 ghost use Rattle.niss_moves.specs.Reader.{IsFed, read_line};
 ghost use Rattle.niss_embed.specs.Parts.{bounds_of, is_end, read_byte, how_number, arranged, solves_line, solves_part, solves_whole, part};
+ghost use Rattle.niss_shell.specs.Words.{most_bytes};
+ghost use Rattle.niss_embed.specs.Corners.{AreBounds, IsAttempt, IsAroundPart};
 ghost use Rattle.niss_embed.specs.Parts.{IsHow, IsFirstFrom, IsFound, IsWithin, TellsPart, answer_of, no_part, end_of_steps};
 
 use crate::answer::Status;
 use crate::line_texts::read_by;
+use crate::step_corners::{Around, AttemptCorners};
 use arrayvec::ArrayVec;
 use niss_moves::{LineReader, Niss};
 use niss_shell::{MOST_BYTES, move_count, solves};
@@ -103,6 +106,7 @@ fn is_end(text: &[u8], place: usize) -> bool
 fn bounds_of(text: &[u8]) -> ArrayVec<usize, 9>
     ensures are { result.items ≡ bounds_of text.now }
     ensures few { (0 < length result.items) × (length result.items ≤ 9) }
+    ensures bounds { AreBounds result.items }
 {
     let mut bounds = ArrayVec::new();
     bounds.push(0);
@@ -126,7 +130,7 @@ fn push_bound(bounds: &mut ArrayVec<usize, 9>, place: usize)
 }
 
 /// What stands in a text from one place to another, as far as it goes.
-fn stretch(text: &[u8], begin: usize, end: usize) -> &[u8]
+pub fn stretch(text: &[u8], begin: usize, end: usize) -> &[u8]
     ensures is { result.now ≡ slice_range text.now begin end }
     ensures fits { length result.now ≤ length text.now }
 {
@@ -147,7 +151,8 @@ fn first_bytes(text: &[u8], count: usize) -> &[u8]
 }
 
 /// Has a reader read some steps.
-fn feed(reader: &mut LineReader, steps: &[u8], brackets: Brackets)
+#[inline(never)]
+pub fn feed(reader: &mut LineReader, steps: &[u8], brackets: Brackets)
     requires { reader.old.fed + length steps.now ≤ 16777216 }
     ensures fed { reader.new.fed ≡ reader.old.fed + length steps.now }
     ensures bytes { (front : List ℕ) → IsFed reader.old front → IsFed reader.new (front ++ map (read_byte brackets) steps.now) }
@@ -216,52 +221,87 @@ fn solves_whole(scramble: &Niss, text: &[u8], bounds: &[usize]) -> bool
     solves_so(scramble, &mut reader)
 }
 
-/// What is done with the steps from one to another so that a scramble is solved, if anything does.
+/// Whether a part of steps solves a scramble. Most parts are seen not to by what they do to the corners.
+fn part_solves(
+    scramble: &Niss,
+    text: &[u8],
+    bounds: &[usize],
+    part: Part,
+    around: &Option<Around>,
+) -> bool
+    requires steps { (part.first < length bounds.now) × (part.behind < length bounds.now) }
+    requires room { length text.now ≤ 65536 }
+    requires around { IfSome around.now (IsAroundPart scramble.now text.now bounds.now part) }
+    ensures { result ≡ solves_part (Ok scramble.now) text.now bounds.now part }
+{
+    if let Some(around) = around {
+        if !around.may_solve(part.how) {
+            return false;
+        }
+    }
+    solves_part(scramble, text, bounds, part)
+}
+
+/// What is done with steps so that a scramble is solved, if anything does. The part names the steps.
 fn solving_how(
     scramble: &Niss,
     text: &[u8],
     bounds: &[usize],
-    first: usize,
-    behind: usize,
+    alone: Part,
+    around: &Option<Around>,
 ) -> Option<How>
-    requires steps { (first < length bounds.now) × (behind < length bounds.now) }
+    requires steps { (alone.first < length bounds.now) × (alone.behind < length bounds.now) }
     requires room { length text.now ≤ 65536 }
-    ensures { IsHow (λ how. solves_part (Ok scramble.now) text.now bounds.now (part how first behind)) result }
+    requires around { IfSome around.now (IsAroundPart scramble.now text.now bounds.now alone) }
+    ensures { IsHow (λ how. solves_part (Ok scramble.now) text.now bounds.now (part how alone.first alone.behind)) result }
 {
     let alone = Part {
         how: How::Alone,
-        first,
-        behind,
+        ..alone
     };
-    if solves_part(scramble, text, bounds, alone) {
+    if part_solves(scramble, text, bounds, alone, around) {
         return Some(How::Alone);
     }
     let left_out = Part {
         how: How::LeftOut,
         ..alone
     };
-    if solves_part(scramble, text, bounds, left_out) {
+    if part_solves(scramble, text, bounds, left_out, around) {
         return Some(How::LeftOut);
     }
     let in_brackets = Part {
         how: How::InBrackets,
         ..alone
     };
-    if solves_part(scramble, text, bounds, in_brackets) {
+    if part_solves(scramble, text, bounds, in_brackets, around) {
         return Some(How::InBrackets);
     }
     None
 }
 
 /// The first part that solves a scramble among those that begin with a step.
-fn part_from(scramble: &Niss, text: &[u8], bounds: &[usize], first: usize) -> Option<Part>
+fn part_from(
+    scramble: &Niss,
+    text: &[u8],
+    bounds: &[usize],
+    corners: &AttemptCorners,
+    first: usize,
+) -> Option<Part>
     requires steps { first < length bounds.now }
     requires room { length text.now ≤ 65536 }
+    requires bounds { AreBounds bounds.now }
+    requires corners { IsAttempt corners.now scramble.now text.now bounds.now }
     ensures { IsFirstFrom (length bounds.now - 1) (solves_part (Ok scramble.now) text.now bounds.now) first result }
 {
     for behind in first + 1..bounds.len() {
-        if let Some(how) = solving_how(scramble, text, bounds, first, behind) {
-            return Some(Part { how, first, behind });
+        let around = corners.around(first, behind);
+        let alone = Part {
+            how: How::Alone,
+            first,
+            behind,
+        };
+        if let Some(how) = solving_how(scramble, text, bounds, alone, &around) {
+            return Some(Part { how, ..alone });
         }
     }
     None
@@ -269,13 +309,15 @@ fn part_from(scramble: &Niss, text: &[u8], bounds: &[usize], first: usize) -> Op
 
 /// What is found in steps.
 fn found_in(scramble: &Niss, text: &[u8], bounds: &[usize]) -> Found
-    requires some { 0 < length bounds.now }
+    requires some { (0 < length bounds.now) × (length bounds.now ≤ 9) }
+    requires bounds { AreBounds bounds.now }
     requires room { length text.now ≤ 65536 }
     ensures { IsFound (length bounds.now - 1) (solves_part (Ok scramble.now) text.now bounds.now)
         (solves_whole (Ok scramble.now) text.now bounds.now) result }
 {
+    let corners = AttemptCorners::of(scramble, text, bounds);
     for first in 0..bounds.len() {
-        if let Some(part) = part_from(scramble, text, bounds, first) {
+        if let Some(part) = part_from(scramble, text, bounds, &corners, first) {
             return Found::Part(part);
         }
     }
@@ -283,6 +325,21 @@ fn found_in(scramble: &Niss, text: &[u8], bounds: &[usize]) -> Found
         Found::WithoutBrackets
     } else {
         Found::Nothing
+    }
+}
+
+/// What is found in steps after a scramble: nothing if that has a fault.
+fn found_after(scramble: &[u8], text: &[u8], bounds: &[usize]) -> Found
+    requires some { (0 < length bounds.now) × (length bounds.now ≤ 9) }
+    requires bounds { AreBounds bounds.now }
+    requires room { (length scramble.now ≤ most_bytes) × (length text.now ≤ 65536) }
+    ensures { IsFound (length bounds.now - 1) (solves_part (read_line scramble.now) text.now bounds.now)
+        (solves_whole (read_line scramble.now) text.now bounds.now) result }
+{
+    let mut reader = LineReader::new();
+    match read_by(&mut reader, scramble) {
+        Ok(scramble) => found_in(scramble, text, bounds),
+        Err(_) => Found::Nothing,
     }
 }
 
@@ -336,11 +393,6 @@ pub fn solving_part(scramble: &[u8], steps: &[u8]) -> PartAnswer
     if scramble.len() > MOST_BYTES || end > MOST_STEP_BYTES {
         return PartAnswer::nothing(Status::Stopped);
     }
-    let first = first_bytes(steps, end);
-    let mut reader = LineReader::new();
-    let found = match read_by(&mut reader, scramble) {
-        Ok(scramble) => found_in(scramble, first, &bounds),
-        Err(_) => Found::Nothing,
-    };
+    let found = found_after(scramble, first_bytes(steps, end), &bounds);
     PartAnswer::of(found, &bounds)
 }

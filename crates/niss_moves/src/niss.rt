@@ -92,6 +92,7 @@ impl Niss {
 }
 
 /// The normal moves of a line, and then the inverse of its bracketed ones.
+#[inline(never)]
 #[tactic(auto, using(crate::proofs::Effects::joined, crate::proofs::Effects::meaning_of))]
 pub fn unniss(niss: &Niss) -> ArrayVec<Token, 256>
     ensures moves { result.items ≡ joined_moves niss.now }

@@ -1,7 +1,9 @@
 //! The module for web pages and other hosts of WebAssembly. `Instance` of `web/module` makes its calls.
+//! `#[inline(never)]` in the crates below keeps one copy of what many places call, so that the module is small.
 #![tactic(auto)]
 
 mod arena;
+mod attempt_call;
 mod best_call;
 mod check_calls;
 mod held;
@@ -12,6 +14,7 @@ mod run_call;
 mod table_calls;
 mod text_calls;
 
+pub use attempt_call::nissy_check_attempts;
 pub use best_call::{nissy_best, nissy_line_after, nissy_solve_sides};
 pub use check_calls::{nissy_check, nissy_facts, nissy_facts_lines, nissy_solving_part};
 pub use held::{Held, Kept};

@@ -77,6 +77,7 @@ fn has_digits_alone(word: &str) -> bool
 }
 
 /// The number that the word spells in decimal digits, if it is at most `most`; `None` for any other word. Zeros may lead it.
+#[inline(never)]
 #[tactic(auto, using(crate::proofs::WordsLemmas::number_too_large))]
 fn parse_number(word: &str, most: u64) -> Option<u64>
     ensures { result ≡ spelled_number most word.now }

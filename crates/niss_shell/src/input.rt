@@ -93,7 +93,7 @@ pub struct Prepared<A: Allocator> {
     input: Option<Vec<u8, A>>,
 }
 
-impl<A: Allocator> Prepared<A> {
+impl<A: Allocator + Copy> Prepared<A> {
     /// Takes memory for the joined words, and then for the tables.
     #[tactic(auto, using(std::proofs::lemmas::Result::err_from_is_err_and))]
     pub fn new<B: Allocator>(
@@ -101,8 +101,6 @@ impl<A: Allocator> Prepared<A> {
         command: LineCommand<Step>,
         words: &[String<B>],
     ) -> Result<Prepared<A>, Stop>
-    where
-        A: Copy,
         ensures command { IfOk result (λ prepared. prepared.command ≡ command) }
         ensures input { IfOk result
             (λ prepared. IsInput (λ text. text.items) prepared.input (map string_bytes words.now)) }

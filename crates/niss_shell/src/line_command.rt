@@ -130,7 +130,7 @@ impl Sink for Uncollected {
 }
 
 /// Counts the solutions from a position, and its looks.
-pub fn count_solutions<A: Allocator>(
+pub fn count_solutions<A: Allocator + Copy>(
     tables: &Tables<A>,
     position: &Position,
     limit: Limit,
@@ -165,7 +165,7 @@ impl Query {
 
     /// Takes what is written of the search from a position. Each solution is written as it is found; that there are none, the
     /// empty line, and the counts wait.
-    pub fn answer<A: Allocator, W: Target>(
+    pub fn answer<A: Allocator + Copy, W: Target>(
         self,
         tables: &Tables<A>,
         position: &Position,

@@ -41,7 +41,7 @@ pub struct Lines<'a, A: Allocator> {
     line: u32,
 }
 
-impl<'a, A: Allocator> Lines<'a, A> {
+impl<'a, A: Allocator + Copy> Lines<'a, A> {
     ghost use Rattle.niss_moves.specs.Reader.{moves_of};
     ghost use Rattle.niss_shell.specs.Engine.{MayBegin, Answers, AnswersSource, HasRoom, piece_of, only_stop};
     ghost use Rattle.niss_shell.specs.Output.{answer_lines, answer_to, fault_answer};

@@ -34,6 +34,7 @@ impl<'a, W: Target> Output<'a, W> {
     }
 
     /// Writes what waits.
+    #[inline(never)]
     pub fn send(&mut self) -> Result<(), DeviceFault>
         ensures same_target { self.new.target.ghost_name ≡ self.old.target.ghost_name }
         ensures sent { Delivers W.call result [] self.old self.new }

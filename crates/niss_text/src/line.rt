@@ -142,6 +142,7 @@ fn begins_head(byte: u8) -> bool {
 }
 
 /// What tells a scramble from others in front of a line, and how many bytes it has.
+#[inline(never)]
 fn head_of(line: &[u8], numbers: Numbers) -> (Head, usize)
     ensures { result.1 ≤ length line.now }
 {

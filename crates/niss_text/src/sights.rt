@@ -144,6 +144,7 @@ fn sees(text: &[u8], sight: Sight, at: usize) -> bool
 }
 
 /// The first place of a part of a text at which something is seen, or the part's end.
+#[inline(never)]
 pub fn first_seen(text: &[u8], from: usize, to: usize, sight: Sight) -> usize
     requires { to ≤ length text.now }
     ensures fits { result ≤ to }

@@ -257,6 +257,7 @@ fn passed(text: &[u8], class: Class) -> &[u8]
 }
 
 /// What is after blanks and what isn't seen in front of a text.
+#[inline(never)]
 pub fn trimmed(text: &[u8]) -> &[u8]
     ensures { length result.now ≤ length text.now }
 {

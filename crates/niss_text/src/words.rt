@@ -83,6 +83,7 @@ pub fn is_step_name(word: &[u8]) -> bool {
 }
 
 /// Whether a text has a word of such.
+#[inline(never)]
 pub fn says(text: &[u8], wanted: Wanted) -> bool {
     let mut rest = text;
     while !rest.is_empty() {

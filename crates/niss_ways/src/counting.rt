@@ -25,6 +25,7 @@ fn push_turns(moves: &mut Moves, turns: &[Turn])
 }
 
 /// Some turns, then others, and then others again, cleaned.
+#[inline(never)]
 pub fn cleaned(made: &[Turn], first: &[Turn], then: &[Turn]) -> Faces
     requires { length made.now + length first.now + length then.now ≤ 256 }
     ensures turns { result.items ≡ clean_turns (made.now ++ first.now ++ then.now) }

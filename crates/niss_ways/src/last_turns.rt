@@ -48,6 +48,7 @@ pub fn last_on(axis: Axis, turns: &[Turn]) -> usize
 }
 
 /// How many twins a sequence has, with itself.
+#[inline(never)]
 pub fn twin_count(axis: Axis, turns: &[Turn]) -> u8
     ensures { result ≤ 4 }
 {

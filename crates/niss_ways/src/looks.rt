@@ -66,6 +66,7 @@ impl Looks {
     }
 
     /// The same from a cube on which the step may start.
+    #[inline(never)]
     pub fn distance_from<A: Allocator>(
         &mut self,
         tables: &Tables<A>,

@@ -63,6 +63,7 @@ impl Coordinate {
     /// At which places a bad piece stands on an axis, as a mask: bit i is set if the piece at place i is bad. The 8 places of
     /// corners are URF, UFL, ULB, UBR, DFR, DLF, DBL, DRB, the 12 of edges UR, UF, UL, UB, DR, DF, DL, DB, FR, FL, BL, BR. Of
     /// a slice, edges on the wrong side are bad: those of the slice that stand outside, and the others that stand in it.
+    #[inline(never)]
     pub fn bad_places(self, axis: Axis, cube: &Cube) -> u16
         ensures mask { result ≡ bad_mask self axis (map_of cube.now) }
         ensures bits { count_ones result ≡ bad_count self axis (map_of cube.now) }

@@ -57,7 +57,7 @@ struct Unknown;
 
 /// The least length of a solution from a position.
 #[tactic(auto, using(crate::proofs::AfterLemmas::least_is_first))]
-fn least_length<A: Allocator>(
+fn least_length<A: Allocator + Copy>(
     tables: &Tables<A>,
     position: &Position,
     limit: Limit,
@@ -124,7 +124,7 @@ fn cut_at(looks: &Meter) -> SearchAnswer
 }
 
 /// Hands out the solutions from a position that come after a sequence.
-fn solve_cube_after<A: Allocator>(
+fn solve_cube_after<A: Allocator + Copy>(
     tables: &Tables<A>,
     position: &Position,
     after: &[Turn],
@@ -170,7 +170,7 @@ fn solve_cube_after<A: Allocator>(
 /// length and then in turn order. `after` has its turns as they stand in its line before the count, and may be any
 /// sequence of face turns; else the call is misused.
 #[tactic(auto, using(crate::proofs::AfterLemmas::after_solves, crate::proofs::AfterLemmas::after_too_long))]
-pub fn solve_after<A: Allocator>(
+pub fn solve_after<A: Allocator + Copy>(
     tables: &Tables<A>,
     line: &[u8],
     after: &[u8],

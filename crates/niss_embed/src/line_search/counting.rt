@@ -13,7 +13,7 @@ use std::alloc::Allocator;
 
 /// Counts all solutions from a position, if nothing bounds them and they are fewer than 2^64: so the search asks for no
 /// bound.
-fn count_all<A: Allocator>(
+fn count_all<A: Allocator + Copy>(
     tables: &Tables<A>,
     position: &Position,
     bounds: &Bounds,
@@ -43,7 +43,7 @@ fn count_all<A: Allocator>(
 }
 
 /// Counts the solutions from a position, within bounds.
-fn count_within<A: Allocator>(
+fn count_within<A: Allocator + Copy>(
     tables: &Tables<A>,
     position: &Position,
     bounds: &Bounds,
@@ -69,7 +69,7 @@ fn count_within<A: Allocator>(
 }
 
 /// Counts the solutions from a position.
-fn count_position<A: Allocator>(
+fn count_position<A: Allocator + Copy>(
     tables: &Tables<A>,
     position: &Position,
     bounds: Bounds,
@@ -85,7 +85,11 @@ fn count_position<A: Allocator>(
 }
 
 /// Counts the solutions for a line that `solve_line` writes if it has room for all, at most `most` of them.
-pub fn count_line<A: Allocator>(tables: &Tables<A>, line: &[u8], wanted: Wanted) -> SearchAnswer
+pub fn count_line<A: Allocator + Copy>(
+    tables: &Tables<A>,
+    line: &[u8],
+    wanted: Wanted,
+) -> SearchAnswer
     ensures { CountsLine tables.now wanted line.now result }
 {
     let Some(bounds) = Bounds::new(wanted) else {

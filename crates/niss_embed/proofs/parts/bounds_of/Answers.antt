@@ -1,5 +1,5 @@
 use Rattle.std.proofs.Common.{◌≡◌, sym, ap, ◌∙◌, length, arith}
-use Rattle.niss_embed.proofs.PartLemmas.{bounds_to, bounds_passed, bounds_added, bounds_end, bounds_few}
+use Rattle.niss_embed.proofs.PartLemmas.{bounds_to, bounds_passed, bounds_added, bounds_end, bounds_few, are_bounds}
 use Rattle.niss_embed.proofs.parts.bounds_of.Goals as goal
 
 pub loop-at-preserved-then-not-is_end : goal.loop-at-preserved-then-not-is_end
@@ -20,3 +20,8 @@ pub returns-clause-few : goal.returns-clause-few
 returns-clause-few c =
     let all : c.loop-at.at ≡ length c.args.text.now = omega (arith, c.loop-at.auto.at-end) in
     rw (bounds_end c.args.text.now c.loop-at.bounds.items (c.loop-at.invariant ∙ ap (λ n. bounds_to c.args.text.now n) all)) (bounds_few c.args.text.now)
+
+pub returns-clause-bounds : goal.returns-clause-bounds
+returns-clause-bounds c =
+    let all : c.loop-at.at ≡ length c.args.text.now = omega (arith, c.loop-at.auto.at-end) in
+    rw (bounds_end c.args.text.now c.loop-at.bounds.items (c.loop-at.invariant ∙ ap (λ n. bounds_to c.args.text.now n) all)) (are_bounds c.args.text.now)

@@ -1,0 +1,220 @@
+-- What bytes after others do to the corners; and lines that don't solve since opposite corners don't come to opposite places.
+use Rattle.std.proofs.Common.{◌≡◌, ◌∙◌, ℕ, zero, suc, ◌+◌, ◌-◌, ◌<◌, ◌≤◌, ◌==◌, ◌↔◌, Bool, true, false, ◌&&◌, ◌||◌, List, [], ◌∷◌, ◌++◌, length, map, take, drop, get_or, refl, sym, ap, subst, arith, append-nil, append_assoc, Result, Ok, Err, inl, inr, ◌⊎◌, cond, add-zero, length-append}
+use Rattle.std.specs.Prelude.{flat_map, slice_index, slice_range, IsTrue}
+use Rattle.std.proofs.Math.Seq.{take-add, get_or-append_seam}
+use Rattle.std.proofs.lemmas.Bool.{cases_lt}
+use Rattle.std.proofs.lemmas.Bool.Decides.{eqb_tells}
+use Rattle.std.proofs.lemmas.List.{map-append, drop-drop, get_or_append_left}
+use Rattle.std.proofs.lemmas.List.Folds.{list_any-append}
+use Rattle.std.proofs.lemmas.Grind.{flat_map-append}
+use Rattle.niss_moves.specs.Effects.{inverse}
+use Rattle.niss_moves.specs.Line.{Moves, joined_moves, Piece, piece_bytes, piece_moves, Item, item_bytes, item_normal, item_bracketed, Spells}
+use Rattle.niss_moves.specs.Line.Item.{Outside, Bracket}
+use Rattle.niss_moves.specs.Reader.{read_line}
+use Rattle.niss_moves.specs.Solving.{IsRotated, is_rotated, solves}
+use Rattle.niss_moves.specs.declared.token.Token.{Token}
+use Rattle.niss_moves.specs.declared.fault.ReadFault.{ReadFault}
+use Rattle.niss_embed.specs.declared.parts.Brackets.TheVariants.{Kept}
+use Rattle.niss_embed.specs.declared.step_corners.StepCorners.{StepCorners}
+use Rattle.niss_embed.specs.Corners.{Brings, Reads, Ascends, has_bracket, steps_line}
+use Rattle.niss_embed.specs.Parts.{read_byte, solves_line}
+use Rattle.niss_embed.proofs.CornerLemmas.{inverse-append}
+
+-- bytes and then others
+pub spells_both : (bytes more : List ℕ) (n b m c : List Token) → Spells bytes n b → Spells more m c → Spells (bytes ++ more) (n ++ m) (b ++ c)
+spells_both bytes more n b m c one two = record {
+  items = one.items ++ two.items;
+  bytes_are = (λ i. one.bytes_are i ++ two.bytes_are i) ∙ sym (flat_map-append item_bytes one.items two.items);
+  normal_are = (λ i. one.normal_are i ++ two.normal_are i) ∙ sym (flat_map-append item_normal one.items two.items);
+  bracketed_are = (λ i. one.bracketed_are i ++ two.bracketed_are i) ∙ sym (flat_map-append item_bracketed one.items two.items);
+}
+
+or_left : (a b : Bool) → (a || b) ≡ false → a ≡ false
+or_left false b e = refl
+or_left true b e = e
+
+or_right : (a b : Bool) → (a || b) ≡ false → b ≡ false
+or_right false b e = e
+or_right true b e = absurd (cc e)
+
+-- Moves that spell bytes without a bracket stand outside brackets.
+plain_items : (items : List Item) → has_bracket (flat_map item_bytes items) ≡ false →
+    (ps : List Piece) × (flat_map item_bytes items ≡ flat_map piece_bytes ps) × (flat_map item_normal items ≡ flat_map piece_moves ps) × (flat_map item_bracketed items ≡ [])
+plain_items [] e = ([], refl, refl, refl)
+plain_items (Outside p ∷ items) e =
+    let both = sym (list_any-append (λ byte. byte == 40) (piece_bytes p) (flat_map item_bytes items)) ∙ e in
+    let rest = plain_items items (or_right (has_bracket (piece_bytes p)) _ both) in
+    (p ∷ rest.0, (λ i. piece_bytes p ++ rest.1 i), (λ i. piece_moves p ++ rest.2 i), rest.3)
+plain_items (Bracket ps ∷ items) e = absurd (cc e)
+
+-- In brackets they are the bracketed ones.
+pub spells_in_brackets : (bytes : List ℕ) (n b : List Token) → Spells bytes n b → has_bracket bytes ≡ false → Spells (40 ∷ bytes ++ 41 ∷ []) [] n
+spells_in_brackets bytes n b it plain =
+    let w = plain_items it.items (ap has_bracket (sym it.bytes_are) ∙ plain) in
+    let bytes_are : bytes ≡ flat_map piece_bytes w.0 = it.bytes_are ∙ w.1 in
+    let moves_are : n ≡ flat_map piece_moves w.0 = it.normal_are ∙ w.2 in
+    record {
+      items = Bracket w.0 ∷ [];
+      bytes_are = ap (λ v. 40 ∷ v ++ 41 ∷ []) bytes_are ∙ sym (append-nil (40 ∷ flat_map piece_bytes w.0 ++ 41 ∷ []));
+      normal_are = refl;
+      bracketed_are = moves_are ∙ sym (append-nil (flat_map piece_moves w.0));
+    }
+
+-- the line of all steps with some of them in brackets
+pub spells_around : (before own after : List ℕ) (n b o p m c : List Token) → Spells before n b → Spells own o p → Spells after m c → has_bracket own ≡ false →
+    Spells ((((before ++ (40 ∷ [])) ++ own) ++ (41 ∷ [])) ++ after) (n ++ m) (b ++ (o ++ c))
+spells_around before own after n b o p m c one two three plain =
+    let middle = spells_both (40 ∷ own ++ 41 ∷ []) after [] o m c (spells_in_brackets own o p two plain) three in
+    let bytes_are : before ++ ((40 ∷ own ++ 41 ∷ []) ++ after) ≡ (((before ++ (40 ∷ [])) ++ own) ++ (41 ∷ [])) ++ after = simp append_assoc in
+    subst (λ (v : List ℕ). Spells v (n ++ m) (b ++ (o ++ c))) bytes_are (spells_both before ((40 ∷ own ++ 41 ∷ []) ++ after) n b m (o ++ c) one middle)
+
+pub false_unless : (b : Bool) → (b ≡ true → ⊥) → b ≡ false
+false_unless false unless = refl
+false_unless true unless = absurd (unless refl)
+
+and_false : (a b : Bool) → a ≡ false → (a && b) ≡ false
+and_false a b e = ap (λ c. c && b) e
+
+abbrev pub IsRead : Type 0
+IsRead =
+    (bytes : List ℕ) (m : Moves) → (read_line bytes ≡ Ok m) ↔ (Spells bytes m.normal m.bracketed × (length m.normal + length m.bracketed ≤ 256))
+
+abbrev pub HasOneReading : Type 0
+HasOneReading = (bytes : List ℕ) (n b m c : List Token) → Spells bytes n b → Spells bytes m c → (n ≡ m) × (b ≡ c)
+
+abbrev pub IsTested : Type 0
+IsTested = (s : List Token) → IsTrue (is_rotated s) ↔ IsRotated s
+
+-- A line doesn't solve if its moves after the scramble do more than a rotation.
+pub line_refused : IsRead → HasOneReading → IsTested → (scramble : Moves) (line : List ℕ) (n b : List Token) → Spells line n b →
+    (IsRotated (joined_moves scramble ++ (n ++ inverse b)) → ⊥) → solves_line (Ok scramble) (read_line line) ≡ false
+line_refused is_read one tested scramble line n b spells unless = by_result (read_line line) refl
+  where
+    by_result : (r : Result Moves ReadFault) → read_line line ≡ r → solves_line (Ok scramble) r ≡ false
+    by_result (Err f) e = refl
+    by_result (Ok m) e =
+        let same = one line n b m.normal m.bracketed spells ((is_read line m).0 e).0 in
+        let moves_are : joined_moves scramble ++ (n ++ inverse b) ≡ joined_moves scramble ++ joined_moves m =
+        λ i. joined_moves scramble ++ (same.0 i ++ inverse (same.1 i)) in
+        and_false (solves scramble m) _
+        (false_unless (solves scramble m) (λ h. unless (subst IsRotated (sym moves_are) ((tested (joined_moves scramble ++ joined_moves m)).0 h))))
+
+-- No bytes do nothing, and bytes do what the first of them and the others do.
+pub reads_nothing : (c : StepCorners) → Brings c.normal.to [] → Brings c.undone.to [] → Brings c.inverse.to [] → Reads [] c
+reads_nothing c brings undoes inverts = record {
+  normal = [];
+  bracketed = [];
+  spells = record { items = []; bytes_are = refl; normal_are = refl; bracketed_are = refl };
+  brings = brings;
+  undoes = undoes;
+  inverts = inverts;
+  is_plain = λ e. refl;
+}
+
+abbrev BringsBoth : (first second both : List ℕ) → Type 0
+BringsBoth first second both = (s t : List Token) → Brings first s → Brings second t → Brings both (s ++ t)
+
+and_both : (a b : Bool) → (a && b) ≡ true → (a ≡ true) × (b ≡ true)
+and_both true b e = (refl, e)
+and_both false b e = absurd (cc e)
+
+no_bracket_in : (bytes more : List ℕ) → has_bracket bytes ≡ false → has_bracket more ≡ false → has_bracket (bytes ++ more) ≡ false
+no_bracket_in bytes more e f = list_any-append (λ byte. byte == 40) bytes more ∙ (λ i. e i || f i)
+
+pub reads_both : (a b c : StepCorners) (bytes more : List ℕ) → BringsBoth a.normal.to b.normal.to c.normal.to → BringsBoth b.undone.to a.undone.to c.undone.to →
+    BringsBoth b.inverse.to a.inverse.to c.inverse.to → c.plain ≡ (a.plain && b.plain) → Reads bytes a → Reads more b → Reads (bytes ++ more) c
+reads_both a b c bytes more brings undoes inverts plain one two = record {
+  normal = one.normal ++ two.normal;
+  bracketed = one.bracketed ++ two.bracketed;
+  spells = spells_both bytes more one.normal one.bracketed two.normal two.bracketed one.spells two.spells;
+  brings = brings one.normal two.normal one.brings two.brings;
+  undoes = subst (Brings c.undone.to) (sym (inverse-append one.normal two.normal)) (undoes (inverse two.normal) (inverse one.normal) two.undoes one.undoes);
+  inverts = subst (Brings c.inverse.to) (sym (inverse-append one.bracketed two.bracketed))
+      (inverts (inverse two.bracketed) (inverse one.bracketed) two.inverts one.inverts);
+  is_plain = λ e.
+      let both = and_both a.plain b.plain (sym plain ∙ e) in
+      no_bracket_in bytes more (one.is_plain both.0) (two.is_plain both.1);
+}
+
+-- Bytes are read as bytes that have a bracket if they have one.
+same_bracket : (bytes : List ℕ) → has_bracket (map (read_byte Kept) bytes) ≡ has_bracket bytes
+same_bracket [] = refl
+same_bracket (byte ∷ bytes) = λ i. by_test byte i || same_bracket bytes i
+  where
+    by_test : (byte : ℕ) → (read_byte Kept byte == 40) ≡ (byte == 40)
+    by_test byte = elim (eqb_tells byte 10) [ inl w ↦ rw w.1 refl | inr w ↦ ap (λ b. (cond b 32 byte) == 40) w.0 ]
+
+-- a step that was read to its end
+pub step_reads : (bytes : List ℕ) (c : StepCorners) (m : Moves) → IsRead → read_line (map (read_byte Kept) bytes) ≡ Ok m → Brings c.normal.to m.normal →
+    Brings c.undone.to (inverse m.normal) → Brings c.inverse.to (inverse m.bracketed) → (c.plain ≡ true → has_bracket bytes ≡ false) →
+    Reads (map (read_byte Kept) bytes) c
+step_reads bytes c m is_read is brings undoes inverts plain = record {
+  normal = m.normal;
+  bracketed = m.bracketed;
+  spells = ((is_read (map (read_byte Kept) bytes) m).0 is).0;
+  brings = brings;
+  undoes = undoes;
+  inverts = inverts;
+  is_plain = λ e. same_bracket bytes ∙ plain e;
+}
+
+-- Steps from one to a second and from there to a third are those from the one to the third.
+joined_ranges : (text : List ℕ) (a b c : ℕ) → a ≤ b → b ≤ c → slice_range text a b ++ slice_range text b c ≡ slice_range text a c
+joined_ranges text a b c ab bc =
+    let first : a + (b - a) ≡ b = omega (arith, ab) in
+    let all : (b - a) + (c - b) ≡ c - a = omega (arith, ab, bc) in
+    ap (λ rest. take (b - a) (drop a text) ++ take (c - b) rest) (ap (λ n. drop n text) (sym first) ∙ sym (drop-drop (b - a) a text))
+    ∙ sym (take-add (b - a) (c - b) (drop a text)) ∙ ap (λ n. take n (drop a text)) all
+
+pub joined_steps : (text : List ℕ) (a b c : ℕ) → a ≤ b → b ≤ c →
+    map (read_byte Kept) (slice_range text a b) ++ map (read_byte Kept) (slice_range text b c) ≡ map (read_byte Kept) (slice_range text a c)
+joined_steps text a b c ab bc =
+    sym (map-append (read_byte Kept) (slice_range text a b) (slice_range text b c)) ∙ ap (map (read_byte Kept)) (joined_ranges text a b c ab bc)
+
+-- places that ascend, by how far the first of them is from another
+pub ascends_to : (bounds : List ℕ) (a n : ℕ) → Ascends bounds → a + n < length bounds → slice_index bounds a ≤ slice_index bounds (a + n)
+ascends_to bounds a zero up l = rw (add-zero a) (omega arith)
+ascends_to bounds a (suc n) up l =
+    let before : slice_index bounds a ≤ slice_index bounds (a + n) = ascends_to bounds a n up (omega (arith, l)) in
+    let last : slice_index bounds (a + n) ≤ slice_index bounds (a + n + 1) = up (a + n) (omega (arith, l)) in
+    let same : a + n + 1 ≡ a + suc n = omega arith in
+    rw (sym same) (omega (arith, before, last))
+
+pub ascends_between : (bounds : List ℕ) (a b : ℕ) → Ascends bounds → a ≤ b → b < length bounds → slice_index bounds a ≤ slice_index bounds b
+ascends_between bounds a b up ab l =
+    let is : a + (b - a) ≡ b = omega (arith, ab) in
+    subst (λ (n : ℕ). slice_index bounds a ≤ slice_index bounds n) is (ascends_to bounds a (b - a) up (omega (arith, is, l)))
+
+not_both : (b : Bool) → b ≡ true → b ≡ false → ⊥
+not_both true t f = cc f
+not_both false t f = cc t
+
+-- A test that each rotation passes, and these moves don't, refuses their line.
+pub refused_by : IsRead → HasOneReading → IsTested → (scramble : Moves) (line : List ℕ) (n b i : List Token) (passes : Bool) → Spells line n b → inverse b ≡ i →
+    (IsRotated (joined_moves scramble ++ (n ++ i)) → passes ≡ true) → passes ≡ false → solves_line (Ok scramble) (read_line line) ≡ false
+refused_by is_read one tested scramble line n b i passes spells is test not_passed =
+    line_refused is_read one tested scramble line n b spells
+    (λ w. not_both passes (test (subst (λ (v : List Token). IsRotated (joined_moves scramble ++ (n ++ v))) is w)) not_passed)
+
+pub inverse_around : (b o c : List Token) → inverse (b ++ (o ++ c)) ≡ (inverse c ++ inverse o) ++ inverse b
+inverse_around b o c = inverse-append b (o ++ c) ∙ ap (λ v. v ++ inverse b) (inverse-append o c)
+
+-- one more step
+pub steps_more : (text bounds : List ℕ) (steps more : List StepCorners) (one : StepCorners) (at : ℕ) → length steps + 1 ≡ at → more ≡ steps ++ one ∷ [] →
+    ((k : ℕ) (none : StepCorners) → k < length steps → Reads (steps_line text bounds k (k + 1)) (get_or steps k none)) → Reads (steps_line text bounds (at - 1) at) one →
+    (length more + 1 ≡ at + 1) × ((k : ℕ) (none : StepCorners) → k < length more → Reads (steps_line text bounds k (k + 1)) (get_or more k none))
+steps_more text bounds steps more one at number is reads last = (omega (arith, number, long), λ k none l. each k none (cases_lt k (length steps)) l)
+  where
+    long : length more ≡ length steps + 1
+    long = ap length is ∙ length-append steps (one ∷ [])
+
+    each : (k : ℕ) (none : StepCorners) → (k < length steps) ⊎ (length steps ≤ k) → k < length more → Reads (steps_line text bounds k (k + 1)) (get_or more k none)
+    each k none (inl before) l =
+        subst (Reads (steps_line text bounds k (k + 1))) (sym (ap (λ xs. get_or xs k none) is ∙ get_or_append_left steps (one ∷ []) none k before)) (reads k none before)
+    each k none (inr not_before) l =
+        let same : k ≡ length steps = omega (arith, l, long, not_before) in
+        let is_last : get_or more k none ≡ one = ap (λ n. get_or more n none) same ∙ ap (λ xs. get_or xs (length steps) none) is ∙ get_or-append_seam steps one [] none in
+        let from : at - 1 ≡ k = omega (arith, number, same) in
+        let to : at ≡ k + 1 = omega (arith, number, same) in
+        subst (Reads (steps_line text bounds k (k + 1))) (sym is_last)
+        (subst (λ (n : ℕ). Reads (steps_line text bounds k n) one) to (subst (λ (n : ℕ). Reads (steps_line text bounds n at) one) from last))

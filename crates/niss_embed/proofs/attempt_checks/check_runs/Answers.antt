@@ -1,0 +1,28 @@
+use Rattle.std.proofs.Common.{◌≡◌, length, take, refl, ap, arith}
+use Rattle.niss_embed.specs.Attempts.{IsOfAttempt, attempts_from}
+use Rattle.niss_embed.proofs.AttemptRuns.{one_check, no_check, behind_check}
+use Rattle.niss_embed.proofs.attempt_checks.check_runs.Goals as goal
+
+pub loop-run-preserved : goal.loop-run-preserved
+loop-run-preserved c =
+    let found = c.in-Some.ensures in
+    let same : length c.put_check.new.checks ≡ length c.loop-run.checks = c.put_check.auto.checks in
+    let inv = c.loop-run.invariant in
+    record {
+      are = λ room. one_check (IsOfAttempt c.args.text.now c.args.lines.now) (attempts_from 0 c.args.lines.now) (attempts_from c.loop-run.at c.args.lines.now)
+          (attempts_from c.in-Some.run'.end c.args.lines.now) c.in-Some.run' c.loop-run.checks c.put_check.new.checks c.loop-run.count _ found.3
+          (omega (arith, room, same)) c.put_check.ensures (record { scramble = refl; name = (refl, refl); of_run = (refl, c.in_ok-judged.ensures.is) })
+          (inv.are (omega (arith, room, same)));
+      few = omega (arith, inv.few, found.0, found.1);
+      counted = omega (arith, inv.counted, ap length found.3);
+      within = found.2;
+      behind = behind_check c.loop-run.checks c.put_check.new.checks c.args.checks.now c.loop-run.count _ c.put_check.ensures inv.behind;
+    }
+
+pub returns-clause-are : goal.returns-clause-are
+returns-clause-are c = λ room.
+    no_check (IsOfAttempt c.args.text.now c.args.lines.now) (attempts_from 0 c.args.lines.now) (attempts_from c.loop-run.at c.args.lines.now)
+    (take c.loop-run.count c.loop-run.checks) c.in_default.ensures (c.loop-run.invariant.are room)
+
+pub returns-clause-all : goal.returns-clause-all
+returns-clause-all c = omega (arith, c.loop-run.invariant.counted, ap length c.in_default.ensures)

@@ -1,0 +1,13 @@
+use Rattle.std.proofs.Common.{◌≡◌, ap, slice_range, arith}
+use Rattle.niss_text.specs.Moves.{most_bytes}
+use Rattle.niss_embed.proofs.AttemptLemmas.{most_between}
+use Rattle.niss_embed.proofs.attempt_checks.judge_part.Goals as goal
+
+pub returns-clause-room : goal.returns-clause-room
+returns-clause-room c = λ one two.
+    let part = c.args.part.now in
+    let own : most_bytes c.lines_between-own.result.now ≡ most_bytes (slice_range c.args.lines.now part.first_line part.solution_end) = ap most_bytes c.lines_between-own.ensures in
+    let others : most_bytes c.lines_between-others.result.now ≡ most_bytes (slice_range c.args.lines.now 0 part.end_line) = ap most_bytes c.lines_between-others.ensures in
+    let few = most_between c.args.lines.now part.first_line part.solution_end in
+    let all = most_between c.args.lines.now 0 part.end_line in
+    c.check.ensures.room (omega (arith, own, few, one)) (omega (arith, own, few, two)) (omega (arith, others, all, one)) (omega (arith, others, all, two))

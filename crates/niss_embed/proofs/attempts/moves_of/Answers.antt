@@ -1,0 +1,12 @@
+use Rattle.std.proofs.Common.{◌≡◌, ◌≤◌, arith}
+use Rattle.std.specs.List.{filter}
+use Rattle.niss_text.specs.Moves.{is_wanted, most_bytes}
+use Rattle.niss_embed.proofs.AttemptLemmas.{most_kept, moves_of_number}
+use Rattle.niss_embed.proofs.attempts.moves_of.Goals as goal
+
+pub returns-else-written-eq0-clause-room : goal.returns-else-written-eq0-clause-room
+returns-else-written-eq0-clause-room c = λ low one two.
+    let it = moves_of_number c.args.which low in
+    let few : most_bytes (filter (is_wanted it.0) c.args.lines.now) ≤ most_bytes c.args.lines.now = most_kept (is_wanted it.0) c.args.lines.now in
+    let done : c.text_moves-written.result.status ≡ 0 = c.text_moves-written.ensures.room it.0 it.1 (omega (arith, few, one)) (omega (arith, few, two)) in
+    absurd (c.if-written-eq0.false done)

@@ -1,0 +1,10 @@
+use Rattle.std.proofs.Common.{◌≡◌, ℕ, ◌+◌, ◌<◌, length, get_or}
+use Rattle.niss_embed.specs.declared.step_corners.StepCorners.{StepCorners}
+use Rattle.niss_embed.specs.Corners.{Reads, steps_line}
+use Rattle.niss_embed.proofs.step_corners.corners_of_steps.Given as goal
+
+abbrev pub invariant-loop-at : goal.invariant-loop-at
+invariant-loop-at l = record {
+  number : length l.steps.items + 1 ≡ l.at;
+  reads : (k : ℕ) (none : StepCorners) → k < length l.steps.items → Reads (steps_line l.text l.bounds k (k + 1)) (get_or l.steps.items k none);
+}

@@ -1,0 +1,239 @@
+-- What is told of attempts that were checked.
+use Rattle.std.specs.Prelude.{◌≡◌, ℕ, zero, suc, ◌+◌, ◌-◌, ◌<◌, ◌==◌, if◌then◌else◌, nat_lt, Bool, true, false, not, ◌&&◌, ⊤, ◌≤◌, ◌↔◌, IsTrue, Ok, min, List, [], ◌∷◌, length, drop, get_or, slice_range}
+use Rattle.std.specs.List.{list_any}
+use Rattle.niss_text.specs.Moves.{AreJoined, is_wanted}
+use Rattle.niss_text.specs.declared.left_out.LeftOut.{LeftOut}
+use Rattle.niss_text.specs.declared.moves.MovesOf.{MovesOf}
+use Rattle.niss_text.specs.declared.moves.MovesOf.TheVariants.{Scramble, Solution, EachStep}
+use Rattle.niss_text.specs.declared.moves.MovesPart.{MovesPart}
+use Rattle.niss_text.specs.declared.text_line.TextLine.{TextLine}
+use Rattle.niss_embed.specs.LineFacts.{check_of}
+use Rattle.niss_embed.specs.Parts.{TellsPart}
+use Rattle.niss_embed.specs.declared.attempt_checks.AttemptCheck.{AttemptCheck}
+use Rattle.niss_embed.specs.declared.attempts.Judged.{Judged}
+use Rattle.niss_embed.specs.declared.runs.Placed.{Placed}
+use Rattle.niss_embed.specs.declared.known_parts.Found.{Found}
+use Rattle.niss_text.specs.declared.known.KnownPart.{KnownPart}
+use Rattle.niss_moves.specs.Line.{Moves}
+use Rattle.niss_moves.specs.Reader.{read_line}
+use Rattle.niss_shell.specs.Output.{line_text}
+use Rattle.niss_shell.specs.Words.{most_bytes}
+use Rattle.niss_shell.specs.declared.command.Rewriting.TheVariants.{Print}
+use Rattle.niss_embed.specs.LineFacts.{unchecked}
+use Rattle.niss_embed.specs.declared.answer.Status.TheVariants.{Done}
+use Rattle.niss_embed.specs.declared.attempts.Doubt.{Doubt}
+use Rattle.niss_embed.specs.declared.fact_answers.CheckAnswer.{CheckAnswer}
+use Rattle.niss_embed.specs.declared.parts.PartAnswer.{PartAnswer}
+use Rattle.niss_embed.specs.declared.runs.Run.{Run}
+
+-- the place of what has none in the text
+abbrev pub no_place : ℕ
+no_place = 18446744073709551615
+
+-- The wanted moves of some lines of a text are this line, with these places.
+pub record AreWritten (text : List ℕ) (of : MovesOf) (lines : List TextLine) (bytes places : List ℕ) : Type 0 where
+  pub left : LeftOut
+  pub room : ℕ
+  pub parts : List MovesPart
+  pub joined : AreJoined text of lines bytes places left room parts
+
+abbrev pub doubt : (reason at : ℕ) → Doubt
+doubt reason at = record { reason = reason; at = at }
+
+abbrev pub no_doubt : Doubt
+no_doubt = doubt 0 no_place
+
+-- what makes one doubt the first of some lines that is in doubt
+abbrev pub first_doubt : List TextLine → Doubt
+first_doubt [] = no_doubt
+first_doubt (line ∷ lines) = if line.doubt == 0 then first_doubt lines else doubt line.doubt line.doubt_at
+
+-- where the fault stands that a check tells of a scramble or a solution, by the places of both
+abbrev pub fault_place : CheckAnswer → (scramble_places solution_places : List ℕ) → ℕ
+fault_place check scramble_places solution_places =
+    if check.column == 0 then no_place
+    else get_or (if check.line == 1 then scramble_places else solution_places) (check.column - 1) no_place
+
+-- both lines are read, and there is no solution that solves
+abbrev pub is_unsolved : (has_solution : Bool) → CheckAnswer → Bool
+is_unsolved has_solution check = (check.status == 0) && not (has_solution && check.solved)
+
+-- the doubt that a part solves which begins at a byte of the steps, of the place of that
+abbrev pub doubt_of_part : PartAnswer → (places : List ℕ) → Doubt
+doubt_of_part part places = if part.how == 0 then no_doubt else doubt 9 (get_or places part.begin no_place)
+
+-- A part of the steps solves, or none, and that is the doubt.
+pub record IsDoubtOfSteps (text : List ℕ) (lines : List TextLine) (scramble : List ℕ) (told : Doubt) : Type 0 where
+  pub steps : List ℕ
+  pub places : List ℕ
+  pub part : PartAnswer
+  pub are_steps : AreWritten text EachStep lines steps places
+  pub tells : TellsPart scramble steps part
+  pub told_is : told ≡ doubt_of_part part places
+
+-- The doubt is that of the reading, or if there is none of the steps of what isn't solved.
+abbrev pub IsDoubt : (of_steps : Bool) → (text : List ℕ) (lines : List TextLine) (scramble : List ℕ) (read told : Doubt) → Type 0
+IsDoubt true text lines scramble read told = IsDoubtOfSteps text lines scramble told
+IsDoubt false text lines scramble read told = told ≡ read
+
+-- What is told of an attempt with these lines and this scramble, of which each byte has its place, and of whose reading
+-- this makes one doubt it.
+pub record IsChecked (text : List ℕ) (lines : List TextLine) (scramble places : List ℕ) (read : Doubt) (it : Judged) : Type 0 where
+  pub solution : List ℕ
+  pub solution_places : List ℕ
+  pub is_solution : AreWritten text Solution lines solution solution_places
+  pub check_is : it.check ≡ check_of scramble solution
+  pub fault_is : it.fault_at ≡ fault_place it.check places solution_places
+  pub checked_is : it.is_checked ≡ list_any (is_wanted Solution) lines
+  pub counts : it.is_doubted ≡ (is_unsolved it.is_checked it.check && not (it.doubt == 0))
+  pub doubt_is : IsDoubt ((read.reason == 0) && is_unsolved it.is_checked it.check) text lines scramble read (doubt it.doubt it.doubt_at)
+
+-- The same of an attempt whose scramble stands in its lines.
+pub record IsOwn (text : List ℕ) (lines : List TextLine) (it : Judged) : Type 0 where
+  pub scramble : List ℕ
+  pub places : List ℕ
+  pub is_scramble : AreWritten text Scramble lines scramble places
+  pub is_checked : IsChecked text lines scramble places (first_doubt lines) it
+
+-- the line before those that belong together, which it does too if it is of the same attempt
+abbrev pub with_line : TextLine → List (List TextLine) → List (List TextLine)
+with_line line [] = (line ∷ []) ∷ []
+with_line line ([] ∷ runs) = (line ∷ []) ∷ runs
+with_line line ((other ∷ more) ∷ runs) =
+    if line.attempt == other.attempt then (line ∷ other ∷ more) ∷ runs else (line ∷ []) ∷ (other ∷ more) ∷ runs
+
+-- the lines of each attempt, one after another
+abbrev pub runs_of : List TextLine → List (List TextLine)
+runs_of [] = []
+runs_of (line ∷ lines) = with_line line (runs_of lines)
+
+-- those that have a scramble, of which the first line has a number
+abbrev pub with_scramble : ℕ → List (List TextLine) → List Run
+with_scramble at [] = []
+with_scramble at (it ∷ runs) =
+    if list_any (is_wanted Scramble) it then record { first = at; end = at + length it } ∷ with_scramble (at + length it) runs
+    else with_scramble (at + length it) runs
+
+-- the attempts with a scramble from a line on
+abbrev pub attempts_from : ℕ → List TextLine → List Run
+attempts_from at lines = with_scramble at (runs_of (drop at lines))
+
+-- This is the check of an attempt among the lines.
+abbrev pub IsOfRun : List ℕ → List TextLine → Run → Placed → Type 0
+IsOfRun text lines run it = (it.lines ≡ run) × IsOwn text (slice_range lines run.first run.end) it.judged
+
+-- the known scramble of a number, of those that end at these places of their bytes
+abbrev pub begin_of : List ℕ → ℕ → ℕ
+begin_of ends zero = 0
+begin_of ends (suc n) = get_or ends n 0
+
+abbrev pub scramble_of : (scrambles ends : List ℕ) → ℕ → List ℕ
+scramble_of scrambles ends n = slice_range scrambles (begin_of ends n) (get_or ends n 0)
+
+-- Both lines are read, and their moves make the same cube, held the same way.
+pub record IsSameCube (one other : List ℕ) : Type 0 where
+  pub moves : Moves
+  pub other_moves : Moves
+  pub fits : length one ≤ most_bytes
+  pub other_fits : length other ≤ most_bytes
+  pub is_read : read_line one ≡ Ok moves
+  pub other_is_read : read_line other ≡ Ok other_moves
+  pub same : line_text Print moves ≡ line_text Print other_moves
+
+-- The scramble that stands in a part whose scramble is known: whether it makes the same cube, and its first place.
+pub record IsFound (text : List ℕ) (lines : List TextLine) (scramble : List ℕ) (it : Found) : Type 0 where
+  pub bytes : List ℕ
+  pub places : List ℕ
+  pub are_moves : AreWritten text Scramble lines bytes places
+  pub same : IsTrue it.is_same ↔ IsSameCube scramble bytes
+  pub at_is : it.at ≡ get_or places 0 no_place
+
+-- The lines of the solution of a part, and all up to its end.
+abbrev pub lines_of : List TextLine → KnownPart → List TextLine
+lines_of lines part = slice_range lines part.first_line part.solution_end
+
+abbrev pub up_to : List TextLine → KnownPart → List TextLine
+up_to lines part = slice_range lines 0 part.end_line
+
+-- the attempts of a part that have a scramble of their own
+abbrev pub others_of : List TextLine → KnownPart → List Run
+others_of lines part = attempts_from (min part.solution_end (length (up_to lines part))) (up_to lines part)
+
+-- A scramble is solved, or not, by lines of its own, with this doubt of the reading.
+abbrev pub IsAlone : List ℕ → (own : List TextLine) → Run → (scramble : List ℕ) → Doubt → Placed → Type 0
+IsAlone text own lines scramble read it = (it.lines ≡ lines) × IsChecked text own scramble [] read it.judged
+
+-- An attempt among other lines is meant, which has the only solution, and the same scramble.
+abbrev pub is_meant : (is_only : Bool) → Found → (own : List TextLine) → Bool
+is_meant is_only found own = is_only && (found.is_same && not (list_any (is_wanted Solution) own))
+
+abbrev pub IsMeant : Bool → List ℕ → (own others : List TextLine) → (lines run : Run) → (scramble : List ℕ) → Found → Placed → Type 0
+IsMeant true text own others lines run scramble found it = IsOfRun text others run it
+IsMeant false text own others lines run scramble found it = IsAlone text own lines scramble (doubt 1 found.at) it
+
+-- What is told of a known scramble by lines of its own, and an attempt among others that has a scramble, the only one or not.
+pub record IsBeside (text : List ℕ) (own others : List TextLine) (lines : Run) (scramble : List ℕ) (run : Run) (is_only : Bool) (it : Placed)
+    : Type 0 where
+  pub found : Found
+  pub is_found : IsFound text (slice_range others run.first run.end) scramble found
+  pub which : IsMeant (is_meant is_only found own) text own others lines run scramble found it
+
+abbrev pub has_none : List Run → Bool
+has_none [] = true
+has_none (run ∷ runs) = false
+
+-- The same by all attempts among the others that have a scramble.
+abbrev pub IsOfKnown : List ℕ → (own others : List TextLine) → Run → (scramble : List ℕ) → List Run → Placed → Type 0
+IsOfKnown text own others lines scramble [] it = IsAlone text own lines scramble (first_doubt own) it
+IsOfKnown text own others lines scramble (run ∷ runs) it = IsBeside text own others lines scramble run (has_none runs) it
+
+abbrev pub run_of : KnownPart → Run
+run_of part = record { first = part.first_line; end = part.solution_end }
+
+-- Which scramble a part is a solution of can't be told, and nothing is checked.
+pub record IsUnseen (part : KnownPart) (it : Placed) : Type 0 where
+  pub lines : it.lines ≡ run_of part
+  pub nothing : it.judged.check ≡ unchecked Done 0 0 0
+  pub no_fault : it.judged.fault_at ≡ no_place
+  pub doubted : doubt it.judged.doubt it.judged.doubt_at ≡ doubt 10 part.begin
+  pub counts : (it.judged.is_doubted ≡ true) × (it.judged.is_checked ≡ false)
+
+-- the same number if it is below that many
+abbrev pub below_or_none : ℕ → ℕ → ℕ
+below_or_none count n = if nat_lt n count then n else no_place
+
+-- What is told of a part, of a known scramble or of none that can be seen.
+pub record IsOfScramble (text : List ℕ) (lines : List TextLine) (scrambles ends : List ℕ) (part : KnownPart) (it : Placed) : Type 0 where
+  pub seen : part.scramble < length ends →
+      IsOfKnown text (lines_of lines part) (up_to lines part) (run_of part) (scramble_of scrambles ends part.scramble)
+      (others_of lines part) it
+  pub unseen : length ends ≤ part.scramble → IsUnseen part it
+
+-- This is the check of a part of a text of solutions, of scrambles that are known.
+pub record IsOfSolutions (text : List ℕ) (lines : List TextLine) (scrambles ends : List ℕ) (part : KnownPart) (it : AttemptCheck) : Type 0 where
+  pub scramble : it.scramble ≡ below_or_none (length ends) part.scramble
+  pub name : (it.name_begin ≡ part.name_begin) × (it.name_end ≡ part.name_end)
+  pub of_scramble : IsOfScramble text lines scrambles ends part it.placed
+
+-- This is the check of an attempt in a text without known scrambles.
+pub record IsOfAttempt (text : List ℕ) (lines : List TextLine) (run : Run) (it : AttemptCheck) : Type 0 where
+  pub scramble : it.scramble ≡ no_place
+  pub name : (it.name_begin ≡ 0) × (it.name_end ≡ 0)
+  pub of_run : IsOfRun text lines run it.placed
+
+-- These are the checks of these, in order.
+unfoldable pub Are : {X : Type 0} → (X → AttemptCheck → Type 0) → List X → List AttemptCheck → Type 0
+Are P [] [] = ⊤
+Are P (x ∷ xs) (it ∷ checks) = P x it × Are P xs checks
+Are P [] (it ∷ checks) = ⊥
+Are P (x ∷ xs) [] = ⊥
+
+-- What a call tells of the attempts of a text, by its lines, or of its parts if there are any or scrambles are known.
+abbrev pub ChecksAttempts : Bool → List ℕ → List TextLine → List KnownPart → (scrambles ends : List ℕ) → List AttemptCheck → Type 0
+ChecksAttempts true text lines parts scrambles ends checks = Are (IsOfAttempt text lines) (attempts_from 0 lines) checks
+ChecksAttempts false text lines parts scrambles ends checks = Are (IsOfSolutions text lines scrambles ends) parts checks
+
+-- how many attempts these are
+abbrev pub number_of_checks : Bool → List TextLine → List KnownPart → ℕ
+number_of_checks true lines parts = length (attempts_from 0 lines)
+number_of_checks false lines parts = length parts

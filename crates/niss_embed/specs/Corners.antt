@@ -1,0 +1,96 @@
+-- Where moves bring the corners of the cube, by numbers of their places; and what parts of a line do to the corners.
+use Rattle.std.specs.Prelude.{◌≡◌, ℕ, ◌+◌, ◌*◌, ◌<◌, ◌≤◌, ◌==◌, Bool, true, false, List, [], ◌∷◌, length, map, IfSome, get_or, slice_index, slice_range}
+use Rattle.std.specs.List.{list_any}
+use Rattle.niss_moves.specs.Effects.{effect, inverse}
+use Rattle.niss_moves.specs.Line.{Spells, Moves, joined_moves}
+use Rattle.niss_moves.specs.Places.{Coord, Pos, Place, is_corner}
+use Rattle.niss_moves.specs.Indices.{face_index, power_index, axis_index}
+use Rattle.niss_moves.specs.declared.token.Token.{Token}
+use Rattle.niss_moves.specs.declared.turn.Power.{Power}
+use Rattle.niss_embed.specs.declared.corners.Corners.{Corners}
+use Rattle.niss_embed.specs.declared.corners.TheConstants.{TURNS, ROTATIONS}
+use Rattle.niss_embed.specs.declared.parts.Brackets.TheVariants.{Kept}
+use Rattle.niss_embed.specs.declared.step_corners.StepCorners.{StepCorners}
+use Rattle.niss_embed.specs.declared.step_corners.Around.{Around}
+use Rattle.niss_embed.specs.declared.step_corners.AttemptCorners.{AttemptCorners}
+use Rattle.niss_embed.specs.declared.parts.Part.{Part}
+use Rattle.niss_embed.specs.Parts.{read_byte, end_of_steps}
+
+abbrev pub side : Coord → ℕ
+side Pos = 1
+side _ = 0
+
+-- the number of a corner's place, below 8: whether its cell lies at R, at U, at F
+unfoldable pub corner_of : Place → ℕ
+corner_of q = side q.cell.x + 2 * side q.cell.y + 4 * side q.cell.z
+
+-- By the number of a corner's place the list has that of the place to which the moves bring it.
+pub record Brings (to : List ℕ) (s : List Token) : Type 0 where
+  pub stays : (q : Place) → is_corner q ≡ true → is_corner (effect s q) ≡ true
+  pub there : (q : Place) → is_corner q ≡ true → corner_of (effect s q) ≡ slice_index to (corner_of q)
+
+abbrev pub home : List ℕ
+home = 0 ∷ 1 ∷ 2 ∷ 3 ∷ 4 ∷ 5 ∷ 6 ∷ 7 ∷ []
+
+-- what a table has for a number and a power
+abbrev pub entry : List (List Corners) → ℕ → Power → Corners
+entry table n p = get_or (get_or table n []) (power_index p) (record { to = home })
+
+-- what the tables have for a move
+abbrev pub corners_after : Token → Corners
+corners_after (Token.Face t) = entry TURNS (face_index t.face) t.power
+corners_after (Token.Wide f p) = entry TURNS (face_index f) p
+corners_after (Token.Slice l p) = record { to = home }
+corners_after (Token.Rotation a p) = entry ROTATIONS (axis_index a) p
+
+-- bytes have a bracket that opens
+abbrev pub has_bracket : List ℕ → Bool
+has_bracket bytes = list_any (λ byte. byte == 40) bytes
+
+-- The bytes spell moves that do this to the corners.
+pub record Reads (bytes : List ℕ) (c : StepCorners) : Type 0 where
+  pub normal : List Token
+  pub bracketed : List Token
+  pub spells : Spells bytes normal bracketed
+  pub brings : Brings c.normal.to normal
+  pub undoes : Brings c.undone.to (inverse normal)
+  pub inverts : Brings c.inverse.to (inverse bracketed)
+  pub is_plain : c.plain ≡ true → has_bracket bytes ≡ false
+
+-- No place stands before the one that is listed before it.
+abbrev pub Ascends : List ℕ → Type 0
+Ascends bounds = (k : ℕ) → k + 1 < length bounds → slice_index bounds k ≤ slice_index bounds (k + 1)
+
+-- the places where steps begin and end: from the begin of the text on, in order
+pub record AreBounds (bounds : List ℕ) : Type 0 where
+  pub begins : slice_index bounds 0 ≡ 0
+  pub ascend : Ascends bounds
+
+-- the steps from one to another as a line
+abbrev pub steps_line : (text bounds : List ℕ) (first behind : ℕ) → List ℕ
+steps_line text bounds first behind = map (read_byte Kept) (slice_range text (slice_index bounds first) (slice_index bounds behind))
+
+-- Each of the steps that begin and end at these places does what the list says.
+pub record AreSteps (text bounds : List ℕ) (steps : List StepCorners) : Type 0 where
+  pub number : length bounds ≡ length steps + 1
+  pub are_bounds : AreBounds bounds
+  pub reads : (k : ℕ) (none : StepCorners) → k < length steps → Reads (steps_line text bounds k (k + 1)) (get_or steps k none)
+
+-- what a scramble and the three parts of all steps do
+pub record IsAround (around : Around) (scramble : Moves) (before own after : List ℕ) : Type 0 where
+  pub scrambles : Brings around.scramble.to (joined_moves scramble)
+  pub reads_before : Reads (map (read_byte Kept) before) around.before
+  pub reads_own : Reads (map (read_byte Kept) own) around.own
+  pub reads_after : Reads (map (read_byte Kept) after) around.after
+
+-- what a scramble does and, if it is known, each step
+pub record IsAttempt (attempt : AttemptCorners) (scramble : Moves) (text bounds : List ℕ) : Type 0 where
+  pub scrambles : Brings attempt.scramble.to (joined_moves scramble)
+  pub are_steps : IfSome attempt.steps (λ steps. AreSteps text bounds steps.items)
+
+-- the same for the steps of a part
+abbrev pub IsAroundPart : Moves → (text bounds : List ℕ) → Part → Around → Type 0
+IsAroundPart scramble text bounds p around =
+    IsAround around scramble (slice_range text 0 (slice_index bounds p.first))
+    (slice_range text (slice_index bounds p.first) (slice_index bounds p.behind))
+    (slice_range text (slice_index bounds p.behind) (end_of_steps bounds))

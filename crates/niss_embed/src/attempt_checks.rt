@@ -1,0 +1,221 @@
+//! Checks all attempts of a text by one call.
+ghost use Rattle.std.specs.Prelude.{◌≡◌, ◌≤◌, ◌<◌, ◌*◌, ◌+◌, ◌&&◌, ◌==◌, ◌⊎◌, IfSome, IsSome, length, take, drop, set};
+ghost use Rattle.niss_text.specs.Moves.{most_bytes};
+ghost use Rattle.niss_embed.specs.Attempts.{Are, IsOfAttempt, IsOfScramble, IsOfSolutions, IsUnseen, ChecksAttempts, attempts_from, number_of_checks};
+
+use crate::answer::Status;
+use crate::attempts::{Judged, NONE, check_own};
+use crate::fact_answers::CheckAnswer;
+use crate::known_parts::{Known, Solution, lines_between};
+use crate::runs::{Placed, Run, next_run};
+use niss_text::{KnownPart, TextLine};
+
+/// The doubt that it can't be seen which scramble a part is a solution of.
+const WHICH_SCRAMBLE: u8 = 10;
+
+/// What is said of an attempt that was checked.
+#[repr(C)]
+#[derive(Clone, Copy, Debug, PartialEq, Eq)]
+pub struct AttemptCheck {
+    /// Which of the known scrambles it is of, from 0, or the highest number.
+    pub scramble: usize,
+    /// Where the head of its part stands; both are 0 if it has none.
+    pub name_begin: usize,
+    pub name_end: usize,
+    /// Its lines, and what is said of them.
+    pub placed: Placed,
+}
+
+/// What `check_attempts` returns.
+#[repr(C)]
+#[derive(Clone, Copy, Debug, PartialEq, Eq)]
+pub struct AttemptsAnswer {
+    /// The number of `Done` or `NoRoom`.
+    pub status: u8,
+    /// How many attempts are checked.
+    pub attempts: usize,
+}
+
+/// Writes a check after that many others, if there is room.
+fn put_check(checks: &mut [AttemptCheck], count: usize, check: AttemptCheck)
+    ensures { checks.new ≡ set checks.old count check }
+{
+    if count < checks.len() {
+        checks[count] = check;
+    }
+}
+
+/// What is said of a part of which it can't be told what it solves.
+fn unseen(part: &KnownPart) -> Placed
+    ensures { IsUnseen part.now result }
+{
+    Placed {
+        lines: Run {
+            first: part.first_line,
+            end: part.solution_end,
+        },
+        judged: Judged {
+            fault_at: NONE,
+            doubt_at: part.begin,
+            doubt: WHICH_SCRAMBLE,
+            is_doubted: true,
+            is_checked: false,
+            check: CheckAnswer::nothing(),
+        },
+    }
+}
+
+/// What is said of a part of a text of solutions.
+fn judge_part(
+    text: &[u8],
+    lines: &[TextLine],
+    known: &Known,
+    part: &KnownPart,
+    out: &mut [u8],
+    places: &mut [u64],
+) -> Option<Placed>
+    ensures is { IfSome result (λ it. IsOfScramble text.now lines.now known.now.scrambles.now known.now.ends.now part.now it) }
+    ensures room { 2 * most_bytes lines.now ≤ length out.old → 2 * most_bytes lines.now ≤ length places.old → IsSome result }
+{
+    let Some(scramble) = known.scramble(part.scramble) else {
+        return Some(unseen(part));
+    };
+    let own = lines_between(lines, part.first_line, part.solution_end);
+    let others = lines_between(lines, 0, part.end_line);
+    let solution = Solution {
+        text,
+        own,
+        lines: Run {
+            first: part.first_line,
+            end: part.solution_end,
+        },
+        others,
+        scramble,
+    };
+    solution.check(part.solution_end.min(others.len()), out, places)
+}
+
+/// The same with its name, and with which scramble that is known it is of.
+fn check_part(
+    text: &[u8],
+    lines: &[TextLine],
+    known: &Known,
+    part: &KnownPart,
+    out: &mut [u8],
+    places: &mut [u64],
+) -> Option<AttemptCheck>
+    ensures is { IfSome result (λ it. IsOfSolutions text.now lines.now known.now.scrambles.now known.now.ends.now part.now it) }
+    ensures room { 2 * most_bytes lines.now ≤ length out.old → 2 * most_bytes lines.now ≤ length places.old → IsSome result }
+{
+    let placed = judge_part(text, lines, known, part, out, places)?;
+    Some(AttemptCheck {
+        scramble: known.number_or_none(part.scramble),
+        name_begin: part.name_begin,
+        name_end: part.name_end,
+        placed,
+    })
+}
+
+/// Checks the parts of a text of solutions.
+fn check_parts(
+    text: &[u8],
+    lines: &[TextLine],
+    parts: &[KnownPart],
+    known: &Known,
+    out: &mut [u8],
+    places: &mut [u64],
+    checks: &mut [AttemptCheck],
+) -> Option<usize>
+    ensures are { IfSome result (λ count. count ≤ length checks.new → Are (IsOfSolutions text.now lines.now known.now.scrambles.now known.now.ends.now) parts.now (take count checks.new)) }
+    ensures all { IfSome result (λ count. count ≡ length parts.now) }
+    ensures room { 2 * most_bytes lines.now ≤ length out.old → 2 * most_bytes lines.now ≤ length places.old → IsSome result }
+    ensures behind { IfSome result (λ count. drop count checks.new ≡ drop count checks.old) }
+{
+    let mut count = 0;
+    let mut rest = parts;
+    while let Some((part, after)) = rest.split_first() {
+        let check = check_part(text, lines, known, part, out, places)?;
+        put_check(checks, count, check);
+        count += 1;
+        rest = after;
+    }
+    Some(count)
+}
+
+/// Checks the attempts among lines that have a scramble.
+#[tactic(auto, using(crate::proofs::AttemptLemmas::most_between))]
+fn check_runs(
+    text: &[u8],
+    lines: &[TextLine],
+    out: &mut [u8],
+    places: &mut [u64],
+    checks: &mut [AttemptCheck],
+) -> Option<usize>
+    ensures are { IfSome result (λ count. count ≤ length checks.new → Are (IsOfAttempt text.now lines.now) (attempts_from 0 lines.now) (take count checks.new)) }
+    ensures few { IfSome result (λ count. count ≤ length lines.now) }
+    ensures all { IfSome result (λ count. count ≡ length (attempts_from 0 lines.now)) }
+    ensures room { 2 * most_bytes lines.now ≤ length out.old → 2 * most_bytes lines.now ≤ length places.old → IsSome result }
+    ensures behind { IfSome result (λ count. drop count checks.new ≡ drop count checks.old) }
+{
+    let mut count = 0;
+    let mut at = 0;
+    while let Some(run) = next_run(lines, at) {
+        let judged = check_own(text, &lines[run.first..run.end], out, places)?;
+        let check = AttemptCheck {
+            scramble: NONE,
+            name_begin: 0,
+            name_end: 0,
+            placed: Placed { lines: run, judged },
+        };
+        put_check(checks, count, check);
+        count += 1;
+        at = run.end;
+    }
+    Some(count)
+}
+
+/// Checks all attempts of a text by its lines, or its parts if it has only solutions of scrambles that are known: as many
+/// as there are parts. Six bytes and places for each byte of the text and each line are room enough for their moves, half
+/// of them for a scramble; what is written there says nothing. If the answer says `NoRoom`, nothing that is written does,
+/// and it tells how many attempts there are, or none if the moves have no room.
+pub fn check_attempts(
+    text: &[u8],
+    lines: &[TextLine],
+    parts: &[KnownPart],
+    known: &Known,
+    out: &mut [u8],
+    places: &mut [u64],
+    checks: &mut [AttemptCheck],
+) -> AttemptsAnswer
+    ensures are { result.status ≡ 0 → ChecksAttempts ((length parts.now == 0) && (length known.now.ends.now == 0)) text.now lines.now parts.now
+        known.now.scrambles.now known.now.ends.now (take result.attempts checks.new) }
+    ensures fits { result.status ≡ 0 → result.attempts ≤ length checks.old }
+    ensures room { 2 * most_bytes lines.now ≤ length out.old → 2 * most_bytes lines.now ≤ length places.old →
+        length lines.now + length parts.now ≤ length checks.old → result.status ≡ 0 }
+    ensures known { (result.status ≡ 0) ⊎ (result.status ≡ 4) }
+    ensures number { 2 * most_bytes lines.now ≤ length out.old → 2 * most_bytes lines.now ≤ length places.old →
+        result.attempts ≡ number_of_checks ((length parts.now == 0) && (length known.now.ends.now == 0)) lines.now parts.now }
+    ensures or_none { (result.attempts ≡ 0)
+        ⊎ (result.attempts ≡ number_of_checks ((length parts.now == 0) && (length known.now.ends.now == 0)) lines.now parts.now) }
+    ensures behind { result.status ≡ 0 → drop result.attempts checks.new ≡ drop result.attempts checks.old }
+{
+    let counted = if parts.is_empty() && known.ends.is_empty() {
+        check_runs(text, lines, out, places, checks)
+    } else {
+        check_parts(text, lines, parts, known, out, places, checks)
+    };
+    match counted {
+        Some(attempts) if attempts <= checks.len() => AttemptsAnswer {
+            status: Status::Done.number(),
+            attempts,
+        },
+        Some(attempts) => AttemptsAnswer {
+            status: Status::NoRoom.number(),
+            attempts,
+        },
+        None => AttemptsAnswer {
+            status: Status::NoRoom.number(),
+            attempts: 0,
+        },
+    }
+}

@@ -1,0 +1,248 @@
+//! Whether the solution of an attempt of a text solves its scramble, and what makes one doubt that it is read as it was
+//! meant.
+ghost use Rattle.std.specs.Prelude.{◌≡◌, ◌≤◌, ◌<◌, ◌*◌, ◌==◌, ◌&&◌, IfSome, IsSome, length, take, get_or};
+ghost use Rattle.std.specs.List.{list_any};
+ghost use Rattle.niss_text.specs.Moves.{is_wanted, number_of_moves, most_bytes};
+ghost use Rattle.niss_text.specs.declared.moves.MovesOf.{MovesOf};
+ghost use Rattle.niss_text.specs.declared.moves.MovesOf.TheVariants.{Solution};
+ghost use Rattle.niss_embed.specs.Attempts.{AreWritten, IsChecked, IsDoubt, IsOwn, doubt, no_doubt, no_place};
+ghost use Rattle.niss_embed.specs.Attempts.{first_doubt, fault_place, is_unsolved, doubt_of_part, IsDoubtOfSteps};
+
+use crate::fact_answers::CheckAnswer;
+use crate::line_facts::check_line;
+use crate::parts::{PartAnswer, solving_part};
+use niss_text::{TextLine, text_moves};
+
+/// Whose moves of some lines are wanted, and of which kinds these are, by the numbers of `niss_text`.
+pub(crate) const OF_SCRAMBLE: u8 = 0;
+
+const OF_SOLUTION: u8 = 2;
+
+const OF_EACH_STEP: u8 = 3;
+
+const STEP_LINE: u8 = 3;
+
+/// The doubt that a part of the steps solves.
+const A_PART: u8 = 9;
+
+/// What has no place in the text, or is of none of the known scrambles.
+pub(crate) const NONE: usize = usize::MAX;
+
+/// What is said of an attempt: whether its solution solves, and what makes one doubt how it is read. Places are in bytes
+/// of the text; of what has none they are the highest number.
+#[repr(C)]
+#[derive(Clone, Copy, Debug, PartialEq, Eq)]
+pub struct Judged {
+    /// Where the fault stands that the check tells. One of a known scramble has no place.
+    pub fault_at: usize,
+    /// Where the doubt stands.
+    pub doubt_at: usize,
+    /// What makes one doubt it, by its number: what its lines say, else 9 if a part of its steps solves; 0 for nothing.
+    pub doubt: u8,
+    /// Whether the doubt counts: nothing is at fault, and there is no solution that solves.
+    pub is_doubted: bool,
+    /// Whether there is a solution of which the check says something.
+    pub is_checked: bool,
+    pub check: CheckAnswer,
+}
+
+/// What makes one doubt that an attempt is read as it was meant.
+#[derive(Clone, Copy)]
+pub struct Doubt {
+    /// Its number, 0 for nothing.
+    pub reason: u8,
+    /// Where it stands in the text.
+    pub at: usize,
+}
+
+/// The scramble of an attempt, with the place of each byte, and what makes one doubt its reading.
+#[derive(Clone, Copy)]
+pub struct Given<'a> {
+    pub scramble: &'a [u8],
+    pub places: &'a [u64],
+    pub doubt: Doubt,
+}
+
+/// Whether one of some lines is of a solution.
+pub(crate) fn has_solution(lines: &[TextLine]) -> bool
+    ensures { result ≡ list_any (is_wanted Solution) lines.now }
+{
+    lines
+        .iter()
+        .any(|line| line.kind == STEP_LINE && line.is_solution != 0)
+}
+
+/// What makes one doubt the first of some lines that is in doubt.
+pub(crate) fn first_doubt(lines: &[TextLine]) -> Doubt
+    ensures { result ≡ first_doubt lines.now }
+{
+    let mut rest = lines;
+    while let Some((line, after)) = rest.split_first() {
+        if line.doubt != 0 {
+            return Doubt {
+                reason: line.doubt,
+                at: line.doubt_at,
+            };
+        }
+        rest = after;
+    }
+    Doubt::none()
+}
+
+impl Doubt {
+    pub(crate) fn none() -> Doubt
+        ensures { result ≡ no_doubt }
+    {
+        Doubt {
+            reason: 0,
+            at: NONE,
+        }
+    }
+
+    /// The doubt that a part solves which begins at a byte of the steps, by the place of each of these.
+    fn of_part(part: &PartAnswer, places: &[u64]) -> Doubt
+        ensures { result ≡ doubt_of_part part.now places.now }
+    {
+        if part.how == 0 {
+            return Doubt::none();
+        }
+        Doubt {
+            reason: A_PART,
+            at: place_at(places, part.begin),
+        }
+    }
+}
+
+/// The place of a byte of a line, if it has one.
+pub(crate) fn place_at(places: &[u64], byte: usize) -> usize
+    ensures { result ≡ get_or places.now byte no_place }
+{
+    match places.get(byte) {
+        Some(place) => *place as usize,
+        None => NONE,
+    }
+}
+
+/// Where a fault stands that a check tells of a scramble or a solution.
+fn fault_place(check: &CheckAnswer, scramble_places: &[u64], solution_places: &[u64]) -> usize
+    ensures { result ≡ fault_place check.now scramble_places.now solution_places.now }
+{
+    if check.column == 0 {
+        NONE
+    } else if check.line == 1 {
+        place_at(scramble_places, check.column as usize - 1)
+    } else {
+        place_at(solution_places, check.column as usize - 1)
+    }
+}
+
+/// Whether both lines are read, and there is no solution that solves.
+fn is_unsolved(has_solution: bool, check: &CheckAnswer) -> bool
+    ensures { result ≡ is_unsolved has_solution check.now }
+{
+    check.status == 0 && !(has_solution && check.solved)
+}
+
+/// Writes the moves of some lines, and says how many bytes these are, if there is room.
+pub(crate) fn moves_of(
+    text: &[u8],
+    lines: &[TextLine],
+    which: u8,
+    out: &mut [u8],
+    places: &mut [u64],
+) -> Option<usize>
+    ensures are { (of : MovesOf) → number_of_moves of ≡ which → IfSome result (λ count. AreWritten text.now of lines.now (take count out.new) (take count places.new)) }
+    ensures within { IfSome result (λ count. (count ≤ length out.new) × (count ≤ length places.new)) }
+    ensures room { which ≤ 3 → most_bytes lines.now ≤ length out.old → most_bytes lines.now ≤ length places.old → IsSome result }
+{
+    let written = text_moves(text, lines, which, out, places, &mut []);
+    if written.status == 0 {
+        Some(written.length)
+    } else {
+        None
+    }
+}
+
+/// What makes one doubt an attempt that isn't solved: that a part of its steps solves.
+fn doubt_of_steps(
+    text: &[u8],
+    lines: &[TextLine],
+    scramble: &[u8],
+    out: &mut [u8],
+    places: &mut [u64],
+) -> Option<Doubt>
+    ensures are { IfSome result (λ told. IsDoubtOfSteps text.now lines.now scramble.now told) }
+    ensures room { most_bytes lines.now ≤ length out.old → most_bytes lines.now ≤ length places.old → IsSome result }
+{
+    let count = moves_of(text, lines, OF_EACH_STEP, out, places)?;
+    let part = solving_part(scramble, &out[..count]);
+    Some(Doubt::of_part(&part, &places[..count]))
+}
+
+/// What makes one doubt an attempt, which is solved, at fault, or neither.
+fn doubt_of(
+    text: &[u8],
+    lines: &[TextLine],
+    given: &Given,
+    is_unsolved: bool,
+    out: &mut [u8],
+    places: &mut [u64],
+) -> Option<Doubt>
+    ensures is { IfSome result (λ told. IsDoubt ((given.now.doubt.reason == 0) && is_unsolved) text.now lines.now given.now.scramble.now given.now.doubt told) }
+    ensures room { most_bytes lines.now ≤ length out.old → most_bytes lines.now ≤ length places.old → IsSome result }
+{
+    if given.doubt.reason == 0 && is_unsolved {
+        doubt_of_steps(text, lines, given.scramble, out, places)
+    } else {
+        Some(given.doubt)
+    }
+}
+
+/// Checks the solution of an attempt by its scramble.
+pub(crate) fn check_by(
+    text: &[u8],
+    lines: &[TextLine],
+    given: &Given,
+    out: &mut [u8],
+    places: &mut [u64],
+) -> Option<Judged>
+    ensures is { IfSome result (λ it. IsChecked text.now lines.now given.now.scramble.now given.now.places.now given.now.doubt it) }
+    ensures room { most_bytes lines.now ≤ length out.old → most_bytes lines.now ≤ length places.old → IsSome result }
+{
+    let count = moves_of(text, lines, OF_SOLUTION, out, places)?;
+    let check = check_line(given.scramble, &out[..count]);
+    let fault_at = fault_place(&check, given.places, &places[..count]);
+    let has_solution = has_solution(lines);
+    let is_unsolved = is_unsolved(has_solution, &check);
+    let doubt = doubt_of(text, lines, given, is_unsolved, out, places)?;
+    Some(Judged {
+        fault_at,
+        doubt_at: doubt.at,
+        doubt: doubt.reason,
+        is_doubted: is_unsolved && doubt.reason != 0,
+        is_checked: has_solution,
+        check,
+    })
+}
+
+/// Checks the solution of an attempt by the scramble among its lines. The rooms are for both, half and half.
+pub(crate) fn check_own(
+    text: &[u8],
+    lines: &[TextLine],
+    out: &mut [u8],
+    places: &mut [u64],
+) -> Option<Judged>
+    ensures is { IfSome result (λ it. IsOwn text.now lines.now it) }
+    ensures room { 2 * most_bytes lines.now ≤ length out.old → 2 * most_bytes lines.now ≤ length places.old → IsSome result }
+{
+    let half = out.len().min(places.len()) / 2;
+    let (scramble, out) = out.split_at_mut(half);
+    let (scramble_places, places) = places.split_at_mut(half);
+    let count = moves_of(text, lines, OF_SCRAMBLE, scramble, scramble_places)?;
+    let given = Given {
+        scramble: &scramble[..count],
+        places: &scramble_places[..count],
+        doubt: first_doubt(lines),
+    };
+    check_by(text, lines, &given, out, places)
+}

@@ -1,0 +1,224 @@
+//! Whether what stands in a part of a text of solutions solves the scramble that is known of it.
+ghost use Rattle.std.specs.Prelude.{◌≡◌, ◌≤◌, ◌<◌, ◌*◌, ◌↔◌, IfSome, IsSome, IsTrue, MatchOption, [], length, slice_range};
+ghost use Rattle.niss_text.specs.Moves.{most_bytes};
+ghost use Rattle.niss_shell.specs.Output.{line_text};
+ghost use Rattle.niss_shell.specs.declared.command.Rewriting.TheVariants.{Print};
+ghost use Rattle.niss_embed.specs.Attempts.{IsSameCube, IsFound, IsAlone, IsMeant, IsBeside, IsOfKnown, scramble_of, begin_of, below_or_none};
+ghost use Rattle.niss_embed.specs.Attempts.{attempts_from};
+
+use crate::attempts::{
+    Doubt, Given, NONE, OF_SCRAMBLE, check_by, check_own, first_doubt, has_solution, moves_of,
+    place_at,
+};
+use crate::line_texts::read_by;
+use crate::runs::{Placed, Run, next_run};
+use niss_moves::{LineReader, LineText, Niss};
+use niss_shell::{MOST_BYTES, Rewriting, rewrite};
+use niss_text::TextLine;
+
+/// The doubt that a part has another scramble.
+const ANOTHER_SCRAMBLE: u8 = 1;
+
+/// Scrambles that are known, one after another, and where each ends.
+#[derive(Clone, Copy)]
+pub struct Known<'a> {
+    pub scrambles: &'a [u8],
+    pub ends: &'a [u64],
+}
+
+/// A scramble that stands in a part whose scramble is known.
+#[derive(Clone, Copy)]
+pub struct Found {
+    /// It makes the same cube.
+    pub is_same: bool,
+    /// Where its first move stands.
+    pub at: usize,
+}
+
+/// Those of some lines from one to another, as far as they go.
+pub(crate) fn lines_between(lines: &[TextLine], begin: usize, end: usize) -> &[TextLine]
+    ensures { result.now ≡ slice_range lines.now begin end }
+{
+    let end = end.min(lines.len());
+    if begin < end {
+        &lines[begin..end]
+    } else {
+        &lines[..0]
+    }
+}
+
+/// Those of some bytes from one to another, as far as they go.
+fn bytes_between(bytes: &[u8], begin: usize, end: usize) -> &[u8]
+    ensures { result.now ≡ slice_range bytes.now begin end }
+{
+    let end = end.min(bytes.len());
+    if begin < end {
+        &bytes[begin..end]
+    } else {
+        &bytes[..0]
+    }
+}
+
+impl Known<'_> {
+    /// Where the scramble of a number begins.
+    fn begin_of(&self, number: usize) -> usize
+        ensures { result ≡ begin_of self.now.ends.now number }
+    {
+        if number == 0 {
+            return 0;
+        }
+        match self.ends.get(number - 1) {
+            Some(end) => *end as usize,
+            None => 0,
+        }
+    }
+
+    /// The same number, if there is such a scramble, or the highest one.
+    pub(crate) fn number_or_none(&self, number: usize) -> usize
+        ensures { result ≡ below_or_none (length self.now.ends.now) number }
+    {
+        if number < self.ends.len() {
+            number
+        } else {
+            NONE
+        }
+    }
+
+    /// The scramble of a number.
+    pub(crate) fn scramble(&self, number: usize) -> Option<&[u8]>
+        ensures { MatchOption result (length self.now.ends.now ≤ number) (λ scramble. (number < length self.now.ends.now)
+            × (scramble.now ≡ scramble_of self.now.scrambles.now self.now.ends.now number)) }
+    {
+        let end = self.ends.get(number)?;
+        Some(bytes_between(self.scrambles, self.begin_of(number), *end as usize))
+    }
+}
+
+/// The cube of some moves as letters.
+fn letters_of(moves: &Niss) -> LineText
+    ensures { result.items ≡ line_text Print moves.now }
+{
+    let mut text = LineText::new();
+    rewrite(Rewriting::Print, moves, &mut text);
+    text.pop();
+    text
+}
+
+/// Whether two scrambles make the same cube, held the same way.
+fn is_same_cube(one: &[u8], other: &[u8]) -> bool
+    ensures { IsTrue result ↔ IsSameCube one.now other.now }
+{
+    if one.len() > MOST_BYTES || other.len() > MOST_BYTES {
+        return false;
+    }
+    let mut first = LineReader::new();
+    let mut second = LineReader::new();
+    match (read_by(&mut first, one), read_by(&mut second, other)) {
+        (Ok(one), Ok(other)) => letters_of(one).as_slice() == letters_of(other).as_slice(),
+        _ => false,
+    }
+}
+
+/// Looks at the scramble among some lines beside one that is known.
+fn found_in(
+    text: &[u8],
+    lines: &[TextLine],
+    scramble: &[u8],
+    out: &mut [u8],
+    places: &mut [u64],
+) -> Option<Found>
+    ensures is { IfSome result (λ it. IsFound text.now lines.now scramble.now it) }
+    ensures room { most_bytes lines.now ≤ length out.old → most_bytes lines.now ≤ length places.old → IsSome result }
+{
+    let count = moves_of(text, lines, OF_SCRAMBLE, out, places)?;
+    Some(Found {
+        is_same: is_same_cube(scramble, &out[..count]),
+        at: place_at(&places[..count], 0),
+    })
+}
+
+/// The solution of a known scramble: its own lines, which these are, and all up to where its part ends.
+#[derive(Clone, Copy)]
+pub struct Solution<'a> {
+    pub text: &'a [u8],
+    pub own: &'a [TextLine],
+    pub lines: Run,
+    pub others: &'a [TextLine],
+    pub scramble: &'a [u8],
+}
+
+impl Solution<'_> {
+    /// What is said of it by its own lines.
+    fn alone(&self, doubt: Doubt, out: &mut [u8], places: &mut [u64]) -> Option<Placed>
+        ensures is { IfSome result (λ it. IsAlone self.now.text.now self.now.own.now self.now.lines self.now.scramble.now doubt it) }
+        ensures room { most_bytes self.now.own.now ≤ length out.old → most_bytes self.now.own.now ≤ length places.old → IsSome result }
+    {
+        let given = Given {
+            scramble: self.scramble,
+            places: &[],
+            doubt,
+        };
+        let judged = check_by(self.text, self.own, &given, out, places)?;
+        Some(Placed {
+            lines: self.lines,
+            judged,
+        })
+    }
+
+    /// The same if it is meant, and else of the attempt beside it that has a scramble.
+    fn or_of(
+        &self,
+        run: Run,
+        found: Found,
+        is_meant: bool,
+        out: &mut [u8],
+        places: &mut [u64],
+    ) -> Option<Placed>
+        ensures is { IfSome result (λ it. IsMeant is_meant self.now.text.now self.now.own.now self.now.others.now self.now.lines run self.now.scramble.now found it) }
+        ensures room { 2 * most_bytes self.now.own.now ≤ length out.old → 2 * most_bytes self.now.own.now ≤ length places.old →
+            2 * most_bytes (slice_range self.now.others.now run.first run.end) ≤ length out.old →
+            2 * most_bytes (slice_range self.now.others.now run.first run.end) ≤ length places.old → IsSome result }
+    {
+        if !is_meant {
+            let doubt = Doubt {
+                reason: ANOTHER_SCRAMBLE,
+                at: found.at,
+            };
+            return self.alone(doubt, out, places);
+        }
+        let lines = lines_between(self.others, run.first, run.end);
+        let judged = check_own(self.text, lines, out, places)?;
+        Some(Placed { lines: run, judged })
+    }
+
+    /// What is said of it beside an attempt that has a scramble, the only one or not.
+    fn beside(&self, run: Run, is_only: bool, out: &mut [u8], places: &mut [u64]) -> Option<Placed>
+        ensures is { IfSome result (λ it. IsBeside self.now.text.now self.now.own.now self.now.others.now self.now.lines self.now.scramble.now run is_only it) }
+        ensures room { 2 * most_bytes self.now.own.now ≤ length out.old → 2 * most_bytes self.now.own.now ≤ length places.old →
+            2 * most_bytes (slice_range self.now.others.now run.first run.end) ≤ length out.old →
+            2 * most_bytes (slice_range self.now.others.now run.first run.end) ≤ length places.old → IsSome result }
+    {
+        let lines = lines_between(self.others, run.first, run.end);
+        let found = found_in(self.text, lines, self.scramble, out, places)?;
+        let is_meant = is_only && (found.is_same && !has_solution(self.own));
+        self.or_of(run, found, is_meant, out, places)
+    }
+
+    /// What is said of it, with the attempts from a line on that have a scramble.
+    #[tactic(auto, using(crate::proofs::AttemptLemmas::most_between))]
+    pub(crate) fn check(&self, from: usize, out: &mut [u8], places: &mut [u64]) -> Option<Placed>
+        requires { from ≤ length self.now.others.now }
+        ensures is { IfSome result (λ it. IsOfKnown self.now.text.now self.now.own.now self.now.others.now self.now.lines self.now.scramble.now
+            (attempts_from from self.now.others.now) it) }
+        ensures room { 2 * most_bytes self.now.own.now ≤ length out.old → 2 * most_bytes self.now.own.now ≤ length places.old →
+            2 * most_bytes self.now.others.now ≤ length out.old → 2 * most_bytes self.now.others.now ≤ length places.old → IsSome result }
+    {
+        match next_run(self.others, from) {
+            None => self.alone(first_doubt(self.own), out, places),
+            Some(run) => {
+                let is_only = next_run(self.others, run.end).is_none();
+                self.beside(run, is_only, out, places)
+            }
+        }
+    }
+}
