@@ -13,7 +13,7 @@ from ._written import Cuts, PlainLine, TextPlace, Written, WrittenLine, written_
 
 _BEFORE, SCRAMBLE, STEP, _NOTE = range(1, 5)
 # whose moves the library writes
-_OF_SCRAMBLE, _OF_STEPS, _OF_SOLUTION, _OF_EACH_STEP = range(4)
+_OF_SCRAMBLE, _OF_STEPS, _OF_SOLUTION = range(3)
 # 1 for each kind of line whose moves these are
 _IS_OF_SCRAMBLE, _IS_STEP = (bytes(kind == wanted for kind in range(256)) for wanted in (SCRAMBLE, STEP))
 _GROUP = attrgetter("group")
@@ -38,6 +38,8 @@ _DOUBTS = (
     "comment",
     "repetition",
     "insertion",
+    "a part",
+    "which scramble",
 )
 
 
@@ -81,7 +83,7 @@ class Attempt(NamedTuple):
     """What makes one doubt the reading if the solution doesn't solve the scramble, or None."""
 
 
-_NOTHING = PlainLine("", (), ())
+NOTHING = PlainLine("", (), ())
 
 
 class TextLine(NamedTuple):
@@ -123,38 +125,30 @@ class Moves:
         """Returns the moves of the lines from one to another as one line."""
         first, last = self._nth[begin], self._nth[end]
         if first == last:
-            return _NOTHING
+            return NOTHING
         start, stop, left_out = self._part(first)
         for nth in range(first + 1, last):
             _, stop, more = self._part(nth)
             left_out |= more
         return self._cuts.cut(start, stop, left_out)
 
-    def written(self, begin: int, end: int) -> Tuple[bytes, Sequence[int]]:
-        """Returns the same in bytes, with the place of each in the text."""
-        first, last = self._nth[begin], self._nth[end]
-        if first == last:
-            return b"", ()
-        start, stop = self._part(first)[0], self._part(last - 1)[1]
-        return self._written.line[start:stop], self._written.places[start:stop]
-
 
 class Reader:
     """A text that is read by lines."""
 
     def __init__(self, whole: Written, tell: Callable[..., Any] = _library.nissy_text_lines) -> None:
-        self.whole, self._data = whole, whole.data
-        most = self._data.count(b"\n") + self._data.count(b"\r") + 1
+        self.whole, self.data = whole, whole.data
+        most = self.data.count(b"\n") + self.data.count(b"\r") + 1
         # the library reads the lines there again
         self._room = bytearray(TEXT_LINE.size * most)
-        self._address = ctypes.addressof(ctypes.c_char.from_buffer(self._room))
-        self.answer = tell(self._data, len(self._data), self._address, most)
+        self.address = ctypes.addressof(ctypes.c_char.from_buffer(self._room))
+        self.answer = tell(self.data, len(self.data), self.address, most)
         self.count = self.answer.lines
         self._told = memoryview(self._room)[: TEXT_LINE.size * self.count]
         self._kinds, self._are_solution, self._are_headed, self._doubts = (
             bytes(self._told[at :: TEXT_LINE.size]) for at in _BYTES
         )
-        self._numbers = self._told.cast("Q")
+        self._numbers, self._has_doubts = self._told.cast("Q"), any(self._doubts)
         # by whose they are
         self._moves: Dict[int, Moves] = {}
 
@@ -166,11 +160,11 @@ class Reader:
     def _number(self, at: int, which: int) -> int:
         return self._numbers[_NUMBERS * at + which]
 
-    def attempts(self, begin: int, end: int) -> List[Tuple[int, int]]:
-        """Returns from which line to which each attempt reaches among some lines that has a scramble."""
-        numbers = self._numbers[_ATTEMPT::_NUMBERS][begin:end].tolist()
-        firsts = (at for at, is_first in enumerate(map(ne, numbers, numbers[1:]), begin + 1) if is_first)
-        begins = [begin, *firsts, end]
+    def attempts(self) -> List[Tuple[int, int]]:
+        """Returns from which line to which each attempt reaches that has a scramble."""
+        numbers = self._numbers[_ATTEMPT::_NUMBERS].tolist()
+        firsts = (at for at, is_first in enumerate(map(ne, numbers, numbers[1:]), 1) if is_first)
+        begins = [0, *firsts, self.count]
         return [it for it in zip(begins, begins[1:]) if self._kinds.find(SCRAMBLE, *it) >= 0]
 
     def moves(self, which: int) -> Moves:
@@ -182,22 +176,13 @@ class Reader:
             room = bytearray(MOVES_PART.size * nth[-1] + 1)
             parts = (ctypes.addressof(ctypes.c_char.from_buffer(room)), nth[-1])
             written = written_by(
-                3 * (len(self._data) + self.count),
+                3 * (len(self.data) + self.count),
                 lambda *rooms: _library.nissy_text_moves(
-                    self._data, len(self._data), self._address, self.count, which, *rooms, *parts
+                    self.data, len(self.data), self.address, self.count, which, *rooms, *parts
                 ),
             )
             self._moves[which] = Moves(self.whole, written, nth, room)
         return self._moves[which]
-
-    def solving_part(self, scramble: str, begin: int, end: int) -> Optional[TextPlace]:
-        """Returns where a part of the steps among some lines begins that solves a scramble, or None."""
-        steps, places = self.moves(_OF_EACH_STEP).written(begin, end)
-        if not steps:
-            return None
-        data = bytes_of(scramble, "")
-        part = _library.nissy_solving_part(data, len(data), steps, len(steps))
-        return self.whole.place(self.whole.at(places[part.begin])) if part.how else None
 
     def _steps(self, lines: Sequence[TextLine]) -> Tuple[PlainLine, ...]:
         moves = self.moves(_OF_STEPS)
@@ -220,8 +205,8 @@ class Reader:
 
     def name(self, begin: int, end: int) -> str:
         """Returns the first head among the lines from one to another, or nothing."""
-        at = self._are_headed.find(1, begin, end)
-        return self.words(self._number(at, _BEGIN), self._number(at, _HEAD_END)) if at >= 0 else ""
+        at = _NUMBERS * self._are_headed.find(1, begin, end)
+        return self.words(self._numbers[at + _BEGIN], self._numbers[at + _HEAD_END]) if at >= 0 else ""
 
     def _label(self, line: TextLine) -> str:
         return self.words(line.label_begin, line.label_end)
@@ -246,10 +231,6 @@ class Reader:
         made = Attempt(self.name(begin, end), self.moves(_OF_SCRAMBLE).of(begin, end), (), None, (), before, doubt)
         return made if self._kinds.find(STEP, begin, end) < 0 else self._with_steps(made, self.lines(begin, end))
 
-    def found(self, begin: int, end: int) -> "Found":
-        """Returns the same with its lines."""
-        return Found(self.attempt(begin, end), self, begin, end)
-
     def _with_steps(self, attempt: Attempt, lines: Sequence[TextLine]) -> Attempt:
         all_steps = [line for line in lines if line.kind == STEP]
         told = [line for line in all_steps if line.is_solution]
@@ -259,44 +240,22 @@ class Reader:
             candidates=tuple(self._candidates(lines)) if lines[-1].group > 0 else (),
         )
 
+    def doubt(self, number: int, byte: int) -> Optional[AttemptDoubt]:
+        """Returns a doubt by the library's number, which is seen at a byte of the text."""
+        return AttemptDoubt(_DOUBTS[number], self.place(byte)) if number else None
+
     def _doubt(self, begin: int, end: int) -> Optional[AttemptDoubt]:
         """Returns what makes one doubt the first line that is in doubt."""
+        if not self._has_doubts:
+            return None
         doubts = self._doubts[begin:end].lstrip(b"\0")
-        if not doubts:
-            return None
-        return AttemptDoubt(_DOUBTS[doubts[0]], self.place(self._number(end - len(doubts), _DOUBT_AT)))
-
-
-class Found(NamedTuple):
-    """An attempt, and from which to which line of a text that was read it reaches."""
-
-    attempt: Attempt
-    reader: Optional[Reader] = None
-    begin: int = 0
-    end: int = 0
-
-    def replaced(self, **fields: Any) -> "Found":
-        """Returns the same with other fields of the attempt."""
-        return self._replace(attempt=self.attempt._replace(**fields))
-
-    def solving_part(self) -> Optional[TextPlace]:
-        """Returns where a part of its steps begins that solves, or None."""
-        if self.reader is None or not (self.attempt.steps or self.attempt.candidates):
-            return None
-        return self.reader.solving_part(self.attempt.scramble.line, self.begin, self.end)
-
-
-def attempts_of(whole: Written) -> Lazily[Found]:
-    """Returns the attempts of a text, at least one."""
-    reader = Reader(whole)
-    attempts = reader.attempts(0, reader.count)
-    if not attempts:
-        return Lazily(1, lambda at: Found(Attempt("", _NOTHING, (), None, (), 0)))
-    return Lazily(len(attempts), lambda at: reader.found(*attempts[at]))
+        return self.doubt(doubts[0], self._number(end - len(doubts), _DOUBT_AT)) if doubts else None
 
 
 def read_attempts(text: Text) -> Sequence[Attempt]:
     """The attempts of a text as solvers write it, at least one, each made when it is asked for: a scramble, then the
     steps of its solution, each on a line with a comment or a label, and blocks of candidates after blank lines; and the
     same of several numbered scrambles. A text of another form is one scramble."""
-    return attempts_of(Written(text)).map(attrgetter("attempt"))
+    reader = Reader(Written(text))
+    attempts = reader.attempts() or [(0, 0)]
+    return Lazily(len(attempts), lambda at: reader.attempt(*attempts[at]))

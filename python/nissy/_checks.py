@@ -1,15 +1,23 @@
-"""Checks the attempts of a text as solvers write it, by the calls for one scramble, one solution and one place."""
+"""Checks the attempts of a text as solvers write it, by one call of the library."""
+import ctypes
+from itertools import accumulate
 from typing import Any, Dict, Iterable, List, NamedTuple, Optional, Sequence, Tuple
 
-from ._attempts import Attempt, AttemptDoubt, Found, attempts_of
-from ._facts import Check, told_of
+from . import _library, _rooms
+from ._attempts import NOTHING, Attempt, AttemptDoubt, Reader
+from ._facts import Check, check_of
 from ._given import Text, bytes_of, each_of
-from ._known import Part, solutions_of
-from ._library import MOST_INPUT
-from ._lines import facelets
+from ._lazily import Lazily
+from ._library import ATTEMPT_CHECK, DONE, KNOWN_PART, MOST_INPUT
+from ._lines import fault_of
 from ._tokens import places_of
-from ._values import Fault, LineFault
+from ._values import LineFault, named
 from ._written import PlainLine, TextPlace, Written, place_in, string_of
+
+# the library's numbers of no scramble and of no place, and of the doubt of a part, which isn't one of the reading
+_NONE, _A_PART = 2**64 - 1, 9
+# a text as long as that has as many bytes written of it and of its lines as are never too few
+_MOST_OF_BYTE, _PLACE = 6, 8
 
 
 class FormInText(NamedTuple):
@@ -55,31 +63,110 @@ class AttemptCheck(NamedTuple):
         }
 
 
-def _doubt_of(found: Found) -> Optional[AttemptDoubt]:
-    """Returns what makes one doubt an attempt that isn't solved: its reading, or that a part of it solves."""
-    if found.attempt.doubt is not None:
-        return found.attempt.doubt
-    place = found.solving_part()
-    return place and AttemptDoubt("a part", place)
+class _Told(NamedTuple):
+    """`nissy_attempt_check` of nissy_text.h."""
+
+    scramble: int
+    name_begin: int
+    name_end: int
+    first_line: int
+    end_line: int
+    fault_at: int
+    doubt_at: int
+    doubt: int
+    is_doubted: bool
+    is_checked: bool
+    status: int
+    fault: int
+    line: int
+    solved: int
+    column: int
+    moves: int
+    clean_moves: int
+    forms: int
 
 
-def _checked(found: Found, whole: Written) -> AttemptCheck:
-    """Returns what is said of an attempt of a text."""
-    attempt = found.attempt
-    scramble, solution = attempt.scramble, attempt.solution
-    # the scramble has its fault without a solution too
-    told = told_of((bytes_of(scramble.line, ""), b"" if solution is None else bytes_of(solution.line, "")), "solution")
-    if isinstance(told, LineFault):
-        faulty = scramble if solution is None or told.part == "scramble" else solution
-        # a scramble that is known has no place in the text
-        place = whole.place(place_in(told, faulty)) if faulty.places or faulty is solution else None
-        return AttemptCheck(attempt, None, told, place, ())
-    if isinstance(told, Fault):
-        raise told
-    if solution is None:
-        return AttemptCheck(attempt, None, None, None, (), _doubt_of(found))
-    doubt = None if told.solved else _doubt_of(found)
-    return AttemptCheck(attempt, told, None, None, _forms_in(solution, whole) if told.forms else (), doubt)
+class _Checks:
+    """What the library tells of the attempts of a text, or of the solutions of scrambles that are known."""
+
+    def __init__(self, whole: Written, scrambles: Optional[List[str]]) -> None:
+        self._whole, self._scrambles = whole, scrambles
+        lines = [bytes_of(line, "") for line in scrambles or ()]
+        # a scramble is a part without lines, and then come those that the text has
+        self._parts = bytearray().join(KNOWN_PART.pack(at, *6 * [0]) for at in range(len(lines)))
+        self._ends = (ctypes.c_uint64 * len(lines))(*accumulate(map(len, lines)))
+        self._reader = Reader(whole) if scrambles is None else Reader(whole, self._tell_known)
+        count = self._reader.count + len(self._parts) // KNOWN_PART.size
+        self._room = bytearray(ATTEMPT_CHECK.size * max(count, 1))
+        self._count = self._check(b"".join(lines), count)
+
+    def _tell_known(self, data: bytes, length: int, lines: int, most: int) -> Any:
+        known, before = len(self._ends), len(self._parts)
+        room, counts = bytearray(KNOWN_PART.size * most), (ctypes.c_uint64 * known)()
+        place = ctypes.addressof(ctypes.c_char.from_buffer(room))
+        told = _library.nissy_known_lines(data, length, lines, most, place, most, ctypes.addressof(counts), known)
+        self._parts = self._parts + room[: KNOWN_PART.size * told.parts]
+        return told
+
+    def _check(self, scrambles: bytes, count: int) -> int:
+        """Returns how many attempts are checked."""
+        data, reader = self._reader.data, self._reader
+        most = _MOST_OF_BYTE * (len(data) + reader.count)
+        room = _rooms.Room((1 + _PLACE) * most)
+        parts, checks = (
+            ctypes.addressof((ctypes.c_char * len(it)).from_buffer(it)) for it in (self._parts, self._room)
+        )
+        of_parts = (parts, len(self._parts) // KNOWN_PART.size)
+        known = (scrambles, len(scrambles), ctypes.addressof(self._ends), len(self._ends))
+        rooms = (room.address + _PLACE * most, most, room.address, most, checks, count)
+        told = _library.nissy_check_attempts(data, len(data), reader.address, reader.count, *of_parts, *known, *rooms)
+        return int(told.attempts)
+
+    def all(self) -> Sequence[AttemptCheck]:
+        """Returns what is said of each, at least one of a text of attempts; of solutions by their scrambles, and then
+        of those of which it can't be seen which that is."""
+        if self._scrambles is None:
+            return Lazily(max(self._count, 1), self._made)
+        told = [self._made(at) for at in range(len(self._scrambles))]
+        others = []
+        for at in range(len(told), self._count):
+            scramble = self._told(at).scramble
+            if scramble == _NONE:
+                others.append(self._made(at))
+            else:
+                told[scramble] = self._made(at)
+        return told + others
+
+    def _told(self, at: int) -> _Told:
+        return _Told._make(ATTEMPT_CHECK.unpack_from(self._room, ATTEMPT_CHECK.size * at))
+
+    def _made(self, at: int) -> AttemptCheck:
+        """Returns what is said of an attempt. Raises Fault if a line of it has too many bytes."""
+        told, reader = self._told(at), self._reader
+        attempt = reader.attempt(told.first_line, told.end_line)
+        doubt = reader.doubt(told.doubt, told.doubt_at) if told.doubt else None
+        if self._scrambles is not None:
+            read = None if told.doubt == _A_PART else doubt
+            attempt = attempt._replace(name=reader.words(told.name_begin, told.name_end), doubt=read)
+            if attempt.scramble is NOTHING and told.scramble != _NONE:
+                attempt = attempt._replace(scramble=PlainLine(self._scrambles[told.scramble], (), ()))
+        if told.status != DONE:
+            place = None if told.fault_at == _NONE else reader.place(told.fault_at)
+            return AttemptCheck(attempt, None, _fault(attempt, told), place, ())
+        doubt = doubt if told.is_doubted else None
+        if attempt.solution is None or not told.is_checked:
+            return AttemptCheck(attempt, None, None, None, (), doubt)
+        forms = _forms_in(attempt.solution, self._whole) if told.forms else ()
+        return AttemptCheck(attempt, check_of(told), None, None, forms, doubt)
+
+
+def _fault(attempt: Attempt, told: _Told) -> LineFault:
+    """Returns the fault of the scramble or the solution. Raises Fault if it has too many bytes."""
+    part, line = ("scramble", attempt.scramble) if told.line == 1 else ("solution", attempt.solution or NOTHING)
+    fault = named(fault_of(told.status, told.fault, told.column, bytes_of(line.line, ""), told.line), part)
+    if isinstance(fault, LineFault):
+        return fault
+    raise fault
 
 
 def _forms_in(solution: PlainLine, whole: Written) -> Tuple[FormInText, ...]:
@@ -87,43 +174,10 @@ def _forms_in(solution: PlainLine, whole: Written) -> Tuple[FormInText, ...]:
     return tuple(FormInText(it.text, it.forms, whole.place(place_in(it, solution))) for it in places_of(solution.line))
 
 
-def _is_same(scramble: str, other: str) -> bool:
-    """Returns whether two scrambles make the same cube."""
-    try:
-        return facelets(scramble) == facelets(other)
-    except Fault:
-        return False
-
-
-def _checked_part(part: Part, scrambles: List[str], whole: Written) -> AttemptCheck:
-    """Returns what is said of a part of a text of solutions."""
-    first, *others = part.attempts
-    if part.scramble is None:
-        doubt = AttemptDoubt("which scramble", whole.place(part.begin))
-        return AttemptCheck(first.attempt._replace(doubt=doubt), None, None, None, (), doubt)
-    scramble = scrambles[part.scramble]
-    # who writes the scramble too says nothing else by it
-    if len(others) == 1 and first.attempt.solution is None and _is_same(scramble, others[0].attempt.scramble.line):
-        return _checked(others[0].replaced(name=first.attempt.name), whole)
-    if others:
-        place = whole.place(others[0].attempt.scramble.places[0])
-        first = first.replaced(doubt=AttemptDoubt("another scramble", place))
-    return _checked(first.replaced(scramble=PlainLine(scramble, (), ())), whole)
-
-
-def _checked_solutions(whole: Written, scrambles: List[str]) -> List[AttemptCheck]:
-    """Returns what is said of the solutions of known scrambles, and then of what is no such solution."""
-    parts = solutions_of(whole, len(scrambles))
-    told = [(part.scramble, _checked_part(part, scrambles, whole)) for part in parts]
-    of = {at: it for at, it in told if at is not None}
-    nothing = (_checked(Found(Attempt("", PlainLine(line, (), ()), (), None, (), 0)), whole) for line in scrambles)
-    return [of.get(at, it) for at, it in enumerate(nothing)] + [it for at, it in told if at is None]
-
-
 def check_attempts(text: Text, *, scrambles: Optional[Iterable[Text]] = None) -> Sequence[AttemptCheck]:
     """The attempts of a text as solvers write it, as `read_attempts` returns them, each with what `check` says of its
     scramble and solution, or the fault of one of them, and where fault and forms stand in the text; and what makes one
-    doubt the reading of one that isn't solved. Each is checked when it is asked for. Raises Fault if one has too many
+    doubt the reading of one that isn't solved. Each is made when it is asked for. Raises Fault if one has too many
     bytes.
 
     With `scrambles` the text has only solutions, each under a head with the number of its scramble in this list, such
@@ -131,8 +185,7 @@ def check_attempts(text: Text, *, scrambles: Optional[Iterable[Text]] = None) ->
     order, without a solution if none is found; then one for each part of the text that may be of another scramble,
     in doubt."""
     whole = Written(text)
-    if scrambles is None:
-        checks = attempts_of(whole).map(lambda found: _checked(found, whole))
-        # only so long a text may have a line that is too long, which isn't passed over
-        return checks if len(whole.data) <= MOST_INPUT else list(checks)
-    return _checked_solutions(whole, [string_of(it) for it in each_of(scrambles, "the scrambles")])
+    known = None if scrambles is None else [string_of(it) for it in each_of(scrambles, "the scrambles")]
+    checks = _Checks(whole, known).all()
+    # only so long a text may have a line that is too long, which isn't passed over
+    return checks if len(whole.data) <= MOST_INPUT else list(checks)

@@ -267,4 +267,9 @@ def told_of(given: Tuple[bytes, bytes], other: str) -> Union[Check, Fault]:
         line = answer.line
         fault = fault_of(answer.status, answer.fault, answer.column, given[line - 1], line)
         return named(fault, "scramble" if line == 1 else other)
+    return check_of(answer)
+
+
+def check_of(answer: Any) -> Check:
+    """Returns what an answer tells of lines that were read, by its numbers."""
     return Check(answer.solved == 1, answer.moves, answer.clean_moves, _forms(answer.forms))

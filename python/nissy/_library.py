@@ -46,9 +46,9 @@ FactsAnswer = _struct("status:1 fault:1 solved:1 column:4 moves:2 clean_moves:2 
 CheckAnswer = _struct("status:1 fault:1 line:1 solved:1 column:4 moves:2 clean_moves:2 forms:1")
 LinesAnswer = _struct("status:1 lines:8 bytes:8")
 PlainAnswer = _struct("status:1 left_out:1 length:8")
-PartAnswer = _struct("status:1 how:1 first:1 last:1 begin:8")
 TextAnswer = _struct("status:1 lines:8 attempts:8")
 KnownAnswer = _struct("status:1 lines:8 parts:8")
+AttemptsAnswer = _struct("status:1 attempts:8")
 WaysWanted = _struct("slack:1 axes:1 least:1 most:1 most_nodes:8 there:8")
 WaysAnswer = _struct("status:1 fault:1 line:1 next:1 column:4 rows:8 tried:8 nodes:8")
 SidesWanted = _struct("sides:1 length:1 counts:1 passed:8 most_nodes:8")
@@ -65,6 +65,7 @@ WAY = struct.Struct("=H4B" + 2 * PART.format[1:])
 TEXT_LINE = struct.Struct("=B4?B2x10Q")
 MOVES_PART = struct.Struct("=2QB7x")
 KNOWN_PART = struct.Struct("=7Q")
+ATTEMPT_CHECK = struct.Struct("=7QB2?x4BI2HB7x")
 
 _NAME = {"win32": "nissy.dll", "cygwin": "nissy.dll", "darwin": "libnissy.2.dylib"}.get(sys.platform, "libnissy.so.2")
 """What the library is called on this system."""
@@ -146,7 +147,7 @@ nissy_known_lines = _call("nissy_known_lines", KnownAnswer, *_READ, *_WRITTEN, *
 nissy_text_moves = _call(
     "nissy_text_moves", PlainAnswer, *_READ, _PLACE, _NUMBER, _BYTE, *_WRITTEN, *_WRITTEN, *_WRITTEN
 )
-nissy_solving_part = _call("nissy_solving_part", PartAnswer, *_READ, *_READ)
+nissy_check_attempts = _call("nissy_check_attempts", AttemptsAnswer, *_READ, *2 * _WRITTEN, *_READ, *4 * _WRITTEN)
 nissy_scramble = _call("nissy_scramble", LineAnswer, _LONG, _LONG, _HALF, *_WRITTEN)
 nissy_steps = _call("nissy_steps", LineAnswer, *_WRITTEN)
 nissy_start = _call("nissy_start", LineAnswer, *_READ, *_WRITTEN)

@@ -6,8 +6,8 @@ import { structOf } from "../../build/web/module/shared/structs.js";
 import * as textLayout from "../../build/web/module/text/text-layout.js";
 import { ended, moduleBytes, same } from "./tally.mjs";
 
-/** The structs that a caller in JavaScript has otherwise: tables stay in the module's memory. */
-const OTHERWISE = ["nissy_tables"];
+/** The structs that a caller in JavaScript has otherwise: tables stay in the module's memory, and a check says which part solves. */
+const OTHERWISE = ["nissy_part_answer", "nissy_tables"];
 
 const headers = ["nissy.h", "nissy_text.h"].map((name) => readFileSync(new URL(`../../include/${name}`, import.meta.url), "utf8")).join("\n");
 const inCamelCase = (name) => name.replace(/_([a-z])/g, (_, letter) => letter.toUpperCase());

@@ -10,7 +10,7 @@ const CALLS = 10_000;
 const BYTES = [0x52, 0x20, 0x55];
 const LINE_CALLS = ["invert", "unniss", "cleanup", "facelets", "scramble", "steps", "start", "fault_text"];
 const JUDGING = ["facts", "check", "facts_lines", "count_lines", "best", "solve_sides", "line_after", "solving_part"];
-const READING = ["plain", "text_lines", "text_moves", "known_lines"];
+const READING = ["plain", "text_lines", "text_moves", "known_lines", "check_attempts"];
 const OTHERS = ["run", "build", "solve", "solve_after", "count"];
 const EXPORTS = ["__heap_base", "memory", ...[...OTHERS, ...LINE_CALLS, ...JUDGING, ...READING].map((name) => `nissy_${name}`)].sort();
 

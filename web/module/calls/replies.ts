@@ -212,7 +212,7 @@ function attemptCheckIn({ attempt, seen, place, forms, doubt }: SeenAttempt): At
   const told: AttemptCheck = { attempt, place, forms, doubt, check: null, fault: null };
   if (seen === null) return told;
   if ("answer" in seen) {
-    if (attempt.solution !== null) told.check = checkFrom(seen);
+    told.check = checkFrom(seen);
     return told;
   }
   const error = errorIn(seen, NAMES_OF_CHECK);

@@ -22,14 +22,14 @@ export type OfEach = SolveRequest
   | Bounds & { call: "best"; scramble: Text; soFar: Text; axes: readonly number[] }
   | { call: "facts"; line: Text }
   | { call: "check"; scramble: Text; solution: Text };
-/** What an engine is asked. `checkSolutions` is of known scrambles. */
+/** What an engine is asked. */
 export type Request = OfEach | AllRequest
   | Search & { call: "countSides"; sides: Sides }
   | { call: "run"; words: Uint8Array; input: Uint8Array; room: number | undefined }
   | { call: Rewriting; line: Text }
   | { call: "lineAfter"; scramble: Text; soFar: Text }
-  | { call: "plainLine" | "readAttempts" | "checkAttempts"; text: string }
-  | { call: "checkSolutions"; text: string; scrambles: string[] }
+  | { call: "plainLine" | "readAttempts"; text: string }
+  | { call: "checkAttempts"; text: string; scrambles?: string[] }
   | { call: "scramble"; state: bigint; stream: bigint; length: number }
   | { call: "steps" };
 export type RequestOf<Call extends Request["call"]> = Request & { call: Call };
@@ -163,11 +163,11 @@ function knownScramble(scramble: unknown, index: number) {
   return typeof scramble === "string" ? scramble : asString(taken);
 }
 
-export function checksRequest(text: unknown, options: unknown = {}): RequestOf<"checkAttempts" | "checkSolutions"> {
+export function checksRequest(text: unknown, options: unknown = {}): RequestOf<"checkAttempts"> {
   const scrambles = optionOf(options, "scrambles");
   if (scrambles === undefined) return textRequest("checkAttempts", text);
   if (!Array.isArray(scrambles)) throw new TypeError("the scrambles are no array");
-  return { call: "checkSolutions", text: writtenText(text), scrambles: eachOf(scrambles, knownScramble) };
+  return { ...textRequest("checkAttempts", text), scrambles: eachOf(scrambles, knownScramble) };
 }
 
 export const lineAfterRequest = (scramble: unknown, soFar: unknown = ""): RequestOf<"lineAfter"> => ({

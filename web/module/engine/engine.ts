@@ -1,7 +1,7 @@
 // The engine: requests are answered by an instance of the module, and by another one after a call that broke off.
-import { seenAttempts, seenSolutions, type SeenAttempt } from "../text/attempt-checks.js";
+import { seenAttempts, type SeenAttempt } from "../text/attempt-checks.js";
 import { attemptsIn, type Attempt } from "../text/attempts.js";
-import { TextInMemory } from "../text/text-calls.js";
+import { TextCalls } from "../text/text-calls.js";
 import { WrittenText, type PlainLine } from "../text/written.js";
 import { EngineMissing } from "../shared/faults.js";
 import { bestOf } from "./best-search.js";
@@ -18,7 +18,7 @@ type Reply = OneReply | CountOfSides | PlainLine | Attempt[] | SeenAttempt[];
 type OneCall = Exclude<Request["call"], "all">;
 type Answer<Call extends OneCall> = (instance: Instance, request: RequestOf<Call>, tell: Follow) => Reply;
 
-const inMemory = (instance: Instance, { text }: { text: string }) => new TextInMemory(instance, new WrittenText(text));
+const callsOn = (instance: Instance, { text }: { text: string }) => new TextCalls(instance, new WrittenText(text));
 
 const REPLIES: { [Call in OneCall]: Answer<Call> } = {
   invert: (instance, { line }) => rewritten(instance, "nissy_invert", line),
@@ -36,10 +36,9 @@ const REPLIES: { [Call in OneCall]: Answer<Call> } = {
   scramble: (instance, { state, stream, length }) => written(instance, "nissy_scramble", [state, stream, length]),
   steps: (instance) => written(instance, "nissy_steps", []),
   run: runIn,
-  plainLine: (instance, request) => inMemory(instance, request).plain(),
-  readAttempts: (instance, request) => attemptsIn(inMemory(instance, request)),
-  checkAttempts: (instance, request) => seenAttempts(instance, inMemory(instance, request)),
-  checkSolutions: (instance, request) => seenSolutions(instance, inMemory(instance, request), request.scrambles),
+  plainLine: (instance, request) => callsOn(instance, request).plain(),
+  readAttempts: (instance, request) => attemptsIn(callsOn(instance, request)),
+  checkAttempts: (instance, request) => seenAttempts(instance, callsOn(instance, request), request.scrambles),
 };
 
 const answerOf = (call: OneCall) => REPLIES[call] as Answer<any>;

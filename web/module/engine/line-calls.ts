@@ -17,13 +17,16 @@ export const boundsOf = ({ limit, slack, most, nodes }: Search): Given[] => [lim
 
 const outOf = (reply: LineReply): string => (reply.status === STATUS.done ? reply.out : "");
 
+/** The words for each fault by its number, which each module has alike: it is asked for them once. */
+const faultTexts: string[] = [];
+
 /** Why a call on a line has no value. The module is asked for the words, so its answer is read before. */
 export function refusal(
   instance: Instance, line: Text = "", step = "", bytes = instance.memory.all, at = instance.answer,
 ): NoValue {
   const [status, fault, column] = [HEAD.read.status, HEAD.read.fault, HEAD.read.column].map((read) => read(bytes, at));
   if (status !== STATUS.fault) return { status } as NoValue;
-  const text = outOf(written(instance, "nissy_fault_text", [fault]));
+  const text = (faultTexts[fault] ??= outOf(written(instance, "nissy_fault_text", [fault])));
   if (fault === START_FAULT) {
     return { status, fault, step, start: outOf(rewritten(instance, "nissy_start", step)), text };
   }

@@ -1,26 +1,21 @@
 // What solvers write down of their attempts: scrambles, each with the steps of a solution and candidates beside it, put
 // together of what the module tells of each line. Nothing of it is called at fault here: what is no line of moves is at
 // fault where it is used.
-import { MOVES_OF, type KnownPart, type TextInMemory, type TextLine } from "./text-calls.js";
+import { MOVES_OF, type TextCalls, type TextLine } from "./text-calls.js";
+import { ATTEMPT_CHECK } from "./text-layout.js";
 import type { PlainLine, TextPlace, WrittenText } from "./written.js";
 
 /** A way that was tried: its steps, these in one, and what is said of it on lines of their own. */
 export type AttemptCandidate = { steps: PlainLine[]; solution: PlainLine; note: string };
 
-/** What makes one doubt a line, by the module's numbers, and what does in a check. */
+/** What makes one doubt a line or a check, by the module's numbers. */
 const REASONS = [
   "", "another scramble", "several solutions", "side", "letters", "small letters", "comment", "repetition", "insertion",
+  "a part", "which scramble",
 ] as const;
-export const A_PART = "a part";
-/** What else does in a check of solutions of known scrambles. */
-export const [, ANOTHER_SCRAMBLE] = REASONS;
-export const WHICH_SCRAMBLE = "which scramble";
 
 /** What makes one doubt that an attempt is read as it was meant, and where that is seen in the text. */
-export type AttemptDoubt = {
-  reason: Exclude<typeof REASONS[number], ""> | typeof A_PART | typeof WHICH_SCRAMBLE;
-  place: TextPlace;
-};
+export type AttemptDoubt = { reason: Exclude<typeof REASONS[number], "">; place: TextPlace };
 
 /** An attempt at a scramble, each part with its places in the whole text. `name` is what tells the scramble from
  * others, such as `2.`, or empty; so many lines of prose stand `before` the first one; `steps` are the lines of the
@@ -37,14 +32,11 @@ export type Attempt = {
   doubt: AttemptDoubt | null;
 };
 
-/** An attempt, and its lines among those of a text in memory. */
-export type FoundAttempt = { attempt: Attempt; lines: TextLine[] };
-
 /** What a line is, by the module's numbers. */
 const LINE_KIND = { blank: 0, before: 1, scramble: 2, step: 3, note: 4 };
 
 /** @returns one that has no place in the text */
-export const withoutPlaces = (line: string): PlainLine => ({ line, places: [], leftOut: [] });
+const withoutPlaces = (line: string): PlainLine => ({ line, places: [], leftOut: [] });
 
 /** An attempt with nothing but a scramble. */
 export const attemptOf = (scramble: PlainLine): Attempt => ({
@@ -71,10 +63,10 @@ const isOfStep = ({ kind }: TextLine) => kind === LINE_KIND.step;
 
 /** Reads the attempts of a text. */
 export class AttemptReader {
-  #text: TextInMemory;
+  #text: TextCalls;
   #written: WrittenText;
 
-  constructor(text: TextInMemory) {
+  constructor(text: TextCalls) {
     this.#text = text;
     this.#written = text.written;
   }
@@ -104,7 +96,7 @@ export class AttemptReader {
 
   #candidate(group: TextLine[]): AttemptCandidate {
     const note = group.filter(({ kind }) => kind === LINE_KIND.note).map((line) => this.#note(line)).join(" ");
-    const told = group.find(({ isLabelled }) => isLabelled);
+    const told = group.find(({ labelled }) => labelled === 1);
     const steps = this.#steps(group);
     return {
       steps,
@@ -113,39 +105,43 @@ export class AttemptReader {
     };
   }
 
-  /** What makes one doubt the first of some lines that is in doubt. */
-  #doubt(lines: TextLine[]): AttemptDoubt | null {
-    const line = lines.find(({ doubt }) => doubt > 0);
-    if (line === undefined) return null;
-    const reason = REASONS[line.doubt] as AttemptDoubt["reason"];
-    return { reason, place: this.#written.places.of(this.#written.unit(line.doubtAt)) };
+  /** @param byte of the text
+   * @returns null beyond it */
+  place(byte: number): TextPlace | null {
+    const { bytes, places } = this.#written;
+    return byte <= bytes.length ? places.of(this.#written.unit(byte)) : null;
+  }
+
+  /** @param number of a reason, which is seen at a byte of the text */
+  #doubt(number: number, byte: number): AttemptDoubt | null {
+    const place = this.place(byte);
+    return number === 0 || place === null ? null : { reason: REASONS[number] as AttemptDoubt["reason"], place };
   }
 
   /** @returns the first head of these, or "" */
   name(lines: TextLine[]): string {
-    const head = lines.find(({ isHeaded }) => isHeaded);
+    const head = lines.find(({ headed }) => headed === 1);
     return head === undefined ? "" : this.#written.part(head.begin, head.headEnd);
   }
 
-  /** @param lines of an attempt */
-  found(lines: TextLine[]): FoundAttempt {
-    return { attempt: this.#attempt(lines), lines };
+  /** An attempt that the module checked, of known scrambles or not, and what makes one doubt the check. */
+  told(told: Uint8Array, at: number, scrambles?: string[]): [Attempt, AttemptDoubt | null] {
+    const { read } = ATTEMPT_CHECK;
+    const lines = this.#text.between(read.firstLine(told, at), read.endLine(told, at));
+    const [attempt, doubt] = [this.attempt(lines), this.#doubt(read.doubt(told, at), read.doubtAt(told, at))];
+    if (scrambles === undefined) return [attempt, doubt];
+    attempt.name = this.#written.part(read.nameBegin(told, at), read.nameEnd(told, at));
+    attempt.doubt = doubt?.reason === "a part" ? null : doubt;
+    // a great number says of none
+    const scramble = scrambles[read.scramble(told, at)];
+    if (scramble !== undefined && !hasScramble(lines)) attempt.scramble = withoutPlaces(scramble);
+    return [attempt, doubt];
   }
 
-  /** @returns those among some lines that have a scramble */
-  foundIn(lines: TextLine[]): FoundAttempt[] {
-    return byAttempt(lines).filter(hasScramble).map((own) => this.found(own));
-  }
-
-  /** What stands in a part of a text of solutions: first what has no scramble there, then what has one of its own. */
-  foundInPart({ name: [begin, end], solution, others }: KnownPart): FoundAttempt[] {
-    const { attempt, lines } = this.found(solution);
-    const name = this.#written.part(begin, end);
-    return [{ attempt: { ...attempt, name }, lines }, ...this.foundIn(others)];
-  }
-
-  #attempt(lines: TextLine[]): Attempt {
-    const doubt = this.#doubt(lines);
+  /** @param lines of it */
+  attempt(lines: TextLine[]): Attempt {
+    const doubted = lines.find((line) => line.doubt > 0);
+    const doubt = doubted === undefined ? null : this.#doubt(doubted.doubt, doubted.doubtAt);
     const before = lines.filter(({ kind }) => kind === LINE_KIND.before).length;
     const begun = { ...attemptOf(this.#text.moves(lines, MOVES_OF.scramble)), name: this.name(lines), before, doubt };
     return lines.some(isOfStep) ? this.#withSteps(begun, lines) : begun;
@@ -156,7 +152,7 @@ export class AttemptReader {
     const after = lines.filter(({ kind }) => kind >= LINE_KIND.step);
     const groups = inRuns(after, ({ group }, before) => group === before.group);
     const moved = groups.filter((group) => group[0].group > 0 && group.some(isOfStep));
-    const told = after.filter((line) => isOfStep(line) && line.isSolution);
+    const told = after.filter((line) => isOfStep(line) && line.solution === 1);
     const under = after.filter((line) => isOfStep(line) && line.group === 0);
     const steps = this.#steps(under.length > 0 ? under : told);
     const alike = under.length === 0 || under[0] === told[0] ? steps : [];
@@ -165,13 +161,10 @@ export class AttemptReader {
   }
 }
 
-/** What is made of each attempt of a text as solvers write it, of which there is at least one. Other calls may be made
- * on the way: the text stays in the memory. */
-export function ofEachAttempt<Made>(text: TextInMemory, make: (found: FoundAttempt) => Made): Made[] {
-  const reader = new AttemptReader(text);
+/** The attempts of a text as solvers write it, of which there is at least one. */
+export function attemptsIn(text: TextCalls): Attempt[] {
   const attempts = byAttempt(text.lines()).filter(hasScramble);
-  if (attempts.length === 0) return text.kept(() => [make({ attempt: attemptOf(withoutPlaces("")), lines: [] })]);
-  return text.kept(() => attempts.map((lines) => make(reader.found(lines))));
+  if (attempts.length === 0) return [attemptOf(withoutPlaces(""))];
+  const reader = new AttemptReader(text);
+  return attempts.map((lines) => reader.attempt(lines));
 }
-
-export const attemptsIn = (text: TextInMemory): Attempt[] => ofEachAttempt(text, ({ attempt }) => attempt);

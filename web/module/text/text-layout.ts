@@ -1,4 +1,5 @@
 // The structs of include/nissy_text.h, which tests/module/layout.mjs holds beside these.
+import { CHECK_ANSWER } from "../shared/layout.js";
 import { struct } from "../shared/structs.js";
 
 export const PLAIN_ANSWER = struct({ status: 1, leftOut: 1, length: 8 });
@@ -12,4 +13,8 @@ export const KNOWN_PART = struct({
   scramble: 8, begin: 8, nameBegin: 8, nameEnd: 8, firstLine: 8, solutionEnd: 8, endLine: 8,
 });
 export const KNOWN_ANSWER = struct({ status: 1, lines: 8, parts: 8 });
-export const PART_ANSWER = struct({ status: 1, how: 1, first: 1, last: 1, begin: 8 });
+export const ATTEMPT_CHECK = struct({
+  scramble: 8, nameBegin: 8, nameEnd: 8, firstLine: 8, endLine: 8, faultAt: 8, doubtAt: 8, doubt: 1, doubted: 1,
+  checked: 1, check: CHECK_ANSWER,
+});
+export const ATTEMPTS_ANSWER = struct({ status: 1, attempts: 8 });
