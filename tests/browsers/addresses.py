@@ -2,7 +2,7 @@
 import re
 from urllib.parse import quote
 
-from browser import Browser, Step
+from browser import Browser
 from tally import Tally
 from wanted import SIDES, Position, fault
 
@@ -165,15 +165,12 @@ def has_no_room(tally: Tally, browser: Browser) -> None:
     address = "#scramble=R&kept=" + ",".join(lines).rsplit(";", 1)[0]
     tally.holds(f"there is room for less than a note: {len(address)}", 19_280 < len(address) < 20_000)
     said = {"alert": "The address of the page has no room for all of this, and stays as it was.", "hash": address}
-    by_time: Step = ("choose", "kept-sort", "kept", {})
     browser.walk(
         tally,
         "no room",
         ("go", address, {}),
-        by_time,
         ("script", note, "\u754c" * 80, said),
         ("load", {"alert": "", "kept": 24}),
-        by_time,
         ("script", note, "\u754c" * 80, said),
         ("script", note, "a", {"alert": "", "hash": address + ";a"}),
     )

@@ -21,6 +21,9 @@ SCRAMBLE = "#scramble=R-_U-_F_D2_L2_F_R2_U2_R2_B_D2_L_B2_D-_B2_L-_R-_B-_D2_B2_R-
 BOTH = SCRAMBLE + "&steps=inverse.B_D_R_F2_B_D~normal.R_B-"
 FIELD = "const field = document.querySelector('%s'); field.value = '%s';"
 PRESS = "document.querySelector(%r).click();"
+# longer continuations are looked for by themselves only while the page is seen
+UNSEEN = """Object.defineProperty(document, "hidden", { value: true });
+    document.dispatchEvent(new Event("visibilitychange"))"""
 # what is looked at: a name, an address, and what is done there
 STATES = (
     ("empty", "", ""),
@@ -48,7 +51,8 @@ STATES = (
         BOTH,
         PRESS % "#line-list button" + FIELD % ("#line-list input", "(B D)") + "field.form.requestSubmit()",
     ),
-    ("an undo", BOTH, PRESS % "#undo-move"),
+    ("an undo", BOTH, PRESS % "#undo-step"),
+    ("a step that goes to the other side", BOTH, PRESS % "#line-list li button:last-child"),
 )
 # wide, with all of them, and as a phone has it, with these
 SIZES = {(1280, 1000): range(len(STATES)), (520, 900): (0, 4, 6)}
@@ -93,7 +97,7 @@ def shown(window: Window, page: str, address: str, act: str) -> dict[str, object
         # the page sets its fields once its scripts run, in WebKit after that
         window.until(DONE)
         # so that none of them is further than another
-        window.script(FIELD % ("#best-further", "none") + "field.dispatchEvent(new Event('change'))")
+        window.script(UNSEEN)
     if not window.until(DONE):
         raise TimeoutError(f"no answer at {address}")
     if act != "":

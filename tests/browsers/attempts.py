@@ -1,4 +1,5 @@
 """What solvers write down of their attempts: how a text of one or several is read, a way to the others, and what joins the lines of its scramble."""
+from best import LONGER, address_of
 from browser import Browser
 from tally import Tally
 
@@ -15,15 +16,18 @@ ONE: tuple[tuple[str, str, str, list[str], str], ...] = (
     ("Inverse: (R U)", "Inverse: (R U)", "", [], "Left out: labels. Moves in brackets count as inverse moves."),
     ("Inverse: R U", "R U", "", [], "Left out: labels."),
 )
-# texts in doubt: the text, the scramble, the line so far, what is said, the word that is marked, and how many signs stand before it
-DOUBTS: tuple[tuple[str, str, str, str, str, int], ...] = (
+# what is said of the steps that are in doubt, by their places
+OF_STEPS = "return all('#line-list li').flatMap((each, at) => [...each.querySelectorAll('.doubt:not([hidden])')].map((one) => [at, one.textContent]))"
+# texts in doubt: the text, the scramble, the line so far, what is said, the sign that is marked, how many stand before it, and the steps in doubt
+DOUBTS: tuple[tuple[str, str, str, str, str, int, list[int]], ...] = (
     (
         "R U F\n\nR U // premoves\nF' // EO",
         "R U F",
         "R U F'",
-        "“premoves” names a side, and moves on the inverse belong in brackets",
+        "“premoves” names a side, and its moves may belong on the other one",
         "p",
         14,
+        [0],
     ),
     (
         "R U F\n\nAnna: F' U' R'\nBert: F' U' D",
@@ -32,8 +36,9 @@ DOUBTS: tuple[tuple[str, str, str, str, str, int], ...] = (
         "the steps don't solve the scramble, but some of them do",
         "F",
         13,
+        [0],
     ),
-    ("R U F\n\nF' // EO U' R' D", "R U F", "F'", "moves stand in a comment, and are left out", "/", 10),
+    ("R U F\n\nD\nF' // EO U' R' D", "R U F", "D F'", "moves stand in a comment, and are left out", "/", 12, [1]),
     (
         "R U F\n\nEO: D\n\nDR: L\n\nD L B",
         "R U F",
@@ -41,8 +46,17 @@ DOUBTS: tuple[tuple[str, str, str, str, str, int], ...] = (
         "of several solutions none is said to be the one that counts",
         "D",
         11,
+        [],
     ),
-    ("R' U' F D R' U' F R U", "R' U' F D R' U' F R U", "", "a whole scramble begins here, and more follows it", "R", 0),
+    (
+        "R' U' F D R' U' F R U",
+        "R' U' F D R' U' F R U",
+        "",
+        "a whole scramble begins here, and more follows it",
+        "R",
+        0,
+        [],
+    ),
 )
 SHEET = (
     "Hello!\nScramble 1 of 3\nR U F\nD // EO\n\nL2\n// a note\n\nScramble 2 of 3\nF' L2, U\nScramble 3 of 3\nB2 R q\n"
@@ -68,8 +82,9 @@ def reads_one(tally: Tally, browser: Browser) -> None:
 
 
 def doubts(tally: Tally, browser: Browser) -> None:
-    """A text that may be meant otherwise than it is read: why is said, with the place marked, until anything is changed, and not beside a fault."""
-    for text, scramble, line, said, sign, before in DOUBTS:
+    """A text that may be meant otherwise than it is read: why is said, with the place marked, and in the step that is meant, until anything is
+    changed, and not beside a fault."""
+    for text, scramble, line, said, sign, before, steps in DOUBTS:
         browser.open()
         browser.walk(
             tally,
@@ -79,7 +94,12 @@ def doubts(tally: Tally, browser: Browser) -> None:
                 "comes",
                 "#scramble-doubt p",
                 [f"In doubt: {said}."],
-                {"#scramble-doubt mark": [sign], "scramble=": scramble, "bracketed": line},
+                {
+                    "#scramble-doubt mark": [sign],
+                    "scramble=": scramble,
+                    "bracketed": line,
+                    OF_STEPS: [[at, f"In doubt: {said}."] for at in steps],
+                },
             ),
         )
         shown = browser.texts("#scramble-doubt pre")[0].split("\n")
@@ -87,7 +107,7 @@ def doubts(tally: Tally, browser: Browser) -> None:
         browser.walk(
             tally,
             "it goes away",
-            ("fill", "scramble", "R U", {"scramble-doubt?": False}),
+            ("fill", "scramble", "R U", {"scramble-doubt?": False, OF_STEPS: []}),
             ("fill", "scramble", "r q", {"scramble-doubt?": False}),
         )
     small = ["In doubt: “r” is read as a wide turn."]
@@ -105,6 +125,54 @@ def doubts(tally: Tally, browser: Browser) -> None:
         "a solution that solves",
         ("script", PASTE, "r u f\n\nf' u' r'", {}),
         ("comes", "steps", 1, {"scramble-doubt?": False}),
+    )
+
+
+def answers_each_line(tally: Tally, browser: Browser) -> None:
+    """Of each line its side is said, what it reaches, that it reaches nothing or gives something up, and what it would reach on the other side; a
+    button puts it there, and all that follows is told anew."""
+    rows = """return all('#line-list .step').map((each) =>
+        [...each.children].filter((one) => one.checkVisibility()).map((one) => one.textContent))"""
+    rest = ["2 normal moves, 8 in all", "reaches no step"]
+    browser.open()
+    browser.walk(
+        tally,
+        "a line on the wrong side",
+        ("script", PASTE, f"{LONGER}\nB D R F2 B D // EO\nR B'\nD2 R // DR\n", {}),
+        (
+            "comes",
+            "steps",
+            3,
+            {
+                rows: [
+                    ["B D R F2 B D", "6 normal moves", "EO U/D on the other side"],
+                    ["R B'", *rest],
+                    ["D2 R", "2 normal moves, 10 in all", "reaches no step"],
+                ]
+            },
+        ),
+        (
+            "act",
+            "#line-list li:first-child button:last-child",
+            {
+                rows: [
+                    ["(B D R F2 B D)", "EO U/D", "6 inverse moves"],
+                    ["R B'", *rest],
+                    ["D2 R", "DR F/B", "2 normal moves, 10 in all"],
+                ]
+            },
+        ),
+        ("go", address_of(LONGER) + "&steps=inverse.B_D_R_F2_B_D~normal.U.inverse.L", {}),
+        (
+            "wait",
+            {
+                rows: [
+                    ["(B D R F2 B D)", "EO U/D", "6 inverse moves"],
+                    ["U (L)", "2 moves, 8 in all", "gives up EO U/D"],
+                ]
+            },
+        ),
+        ("go", "#scramble=R_U&steps=normal.U-_R-", {rows: [["U' R'", "solved", "2 normal moves"]]}),
     )
 
 
@@ -164,7 +232,6 @@ def joins(tally: Tally, browser: Browser) -> None:
     browser.walk(
         tally,
         "a solution of the same scramble",
-        ("choose", "kept-sort", "kept", {}),
         ("script", PASTE, "R U F\nD // EO\n\nL2\n// one\n\nB\n", {}),
         ("comes", "kept", 2, first),
         ("script", PASTE, "R,  U F\nF2 // EO\n\nL2\n// other\n\nU\n", {}),

@@ -49,35 +49,31 @@ def stands_beside(tally: Tally, browser: Browser) -> None:
 
 
 def undoes(tally: Tally, browser: Browser) -> None:
-    """What is taken away, one or all, comes back with its note in its place, until something else changes."""
+    """What is taken away comes back with its note in its place, until something else changes."""
     browser.resize()
-    browser.walk(tally, "five", ("go", FIVE, {}), ("choose", "kept-sort", "kept", {}), ("until", KEPT_SAID, {}))
+    browser.walk(tally, "five", ("go", FIVE, {}), ("until", KEPT_SAID, {}))
     lines = browser.script(LINES)
     browser.walk(
         tally,
         "one",
-        ("click", REMOVE % 2, {"kept-left-words": "1 line was removed.", LINES: lines[:1] + lines[2:]}),
+        ("click", REMOVE % 2, {"kept-left-words": "A line was removed.", LINES: lines[:1] + lines[2:]}),
         ("click", "#kept-back", {"kept-left": "", LINES: lines}),
         ("until", KEPT_SAID, {}),
     )
-    gone = {
-        "kept-left-words": "5 lines were removed.",
-        "focus": "kept-back",
-        "kept": 0,
-        "copy-kept?": False,
-        "kept-sort?": False,
-    }
     browser.walk(
         tally,
-        "all are removed, and nothing is left to copy or to sort",
-        ("click", "#kept-clear", gone),
-        ("click", "#kept-back", {LINES: lines}),
+        "the only one, and nothing is left to copy",
+        ("go", ADDRESS + "&kept=normal.R-_U_F-_R_L", {}),
+        ("until", KEPT_SAID, {}),
+        ("click", REMOVE % 1, {"focus": "kept-back", "kept": 0, "copy-kept?": False}),
+        ("click", "#kept-back", {"kept": 1, "copy-kept?": True}),
+        ("go", FIVE, {}),
         ("until", KEPT_SAID, {}),
     )
     browser.walk(
         tally,
         "another change ends the offer",
-        ("click", REMOVE % 1, {"kept-left-words": "1 line was removed."}),
+        ("click", REMOVE % 1, {"kept-left-words": "A line was removed."}),
         ("wait_best", {}),
         ("act", "#best-body .star", {"kept-left": ""}),
     )
@@ -88,11 +84,10 @@ def undoes(tally: Tally, browser: Browser) -> None:
         browser.resize(width, 900)
         browser.walk(
             tally,
-            f"{width}: the undo is seen, and all come back",
+            f"{width}: the undo is seen, and the line comes back",
             ("go", MANY, {}),
             ("until", KEPT_SAID, {}),
             ("script", "part('kept').scrollIntoView()", {}),
             ("click", REMOVE % 2, {is_seen: True}),
-            ("click", "#kept-clear", {"kept": 0}),
-            ("click", "#kept-back", {"kept": 18}),
+            ("click", "#kept-back", {"kept": 19}),
         )

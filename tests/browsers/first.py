@@ -12,7 +12,7 @@ SELECT = "part('scramble').focus(); part('scramble').select()"
 
 
 def welcomes(tally: Tally, browser: Browser) -> None:
-    """No card without content, three sentences with a picture each, one main button and one example, which leads to the answers."""
+    """No card without content, three sentences, and one button, which leads to the answers."""
     main = """return all('button').filter((each) => each.checkVisibility()
         && getComputedStyle(each).backgroundColor === getComputedStyle(part('random')).backgroundColor).map((each) => each.id)"""
     browser.open()
@@ -20,17 +20,12 @@ def welcomes(tally: Tally, browser: Browser) -> None:
         browser.resize(width, 900)
         words = [text.split()[0].strip(",:") for text in browser.texts("#welcome li")]
         tally.equal(
-            f"{width}: the cards, the sentences, the pictures, the main button, and the example",
-            (
-                browser.script(CARDS),
-                words,
-                browser.look("n #welcome li svg"),
-                browser.script(main),
-                browser.texts("[data-example]"),
-            ),
-            (["scramble-card", "welcome"], ["Scramble", "EO", "DR"], 3, ["random"], ["Try an example"]),
+            f"{width}: the cards, the sentences, and the main button",
+            (browser.script(CARDS), words, browser.script(main)),
+            (["scramble-card", "welcome"], ["Scramble", "EO", "DR"], ["random"]),
         )
-    browser.act("[data-example]")
+    browser.click("#random")
+    browser.settle("return part('scramble').value !== ''")
     tally.holds("it leads to the answers", len(browser.cells()) == 6 and "welcome" not in browser.script(CARDS))
     browser.resize()
 
@@ -68,13 +63,7 @@ def types_over(tally: Tally, browser: Browser) -> None:
     )
 
 
-def tells_of_a_file(tally: Tally, browser: Browser) -> None:
-    """The link of a page that is a file is said to be one; the FMC text is seen."""
-    browser.walk(
-        tally,
-        "the FMC text is seen",
-        ("go", LINES, {"fmc": f"{LONGER}\n(B D R F2 B D) // EO U/D (6)"}),
-        ("click", "#copy-link", {}),
-    )
-    tally.holds("a file's link is said to be one", browser.until("return part('said').matches(':popover-open')"))
-    tally.holds("in words", "This page is a file" in browser.text("said"))
+def shows_text(tally: Tally, browser: Browser) -> None:
+    """The FMC text is seen."""
+    fmc = f"{LONGER}\n(B D R F2 B D) // EO U/D (6)"
+    browser.walk(tally, "the FMC text is seen", ("go", LINES, {"fmc": fmc}))

@@ -2,7 +2,9 @@
 import re
 import time
 
+from best import LONGER
 from browser import Browser, Keys
+from searches import ANOTHER
 from steps import ADDRESS, SCRAMBLE, back
 from tally import Tally
 from wanted import SIDES, Position, counted
@@ -35,7 +37,7 @@ def dimmed(tally: Tally, browser: Browser) -> None:
         ("open", ADDRESS, {HELD: [False, False]}),
         ("script", "document.querySelector('[data-cell=\"eorl.normal\"]').focus()", {}),
     )
-    held = browser.script("document.querySelector('[data-example]').click();" + HELD)
+    held = browser.script(ANOTHER + HELD, LONGER)
     tally.equal("an old table is dimmed and can't be used", held, [True, True])
     browser.walk(tally, "a new one is lit", ("wait", {HELD: [False, False], "focus": "eorl.normal"}))
 
@@ -61,10 +63,10 @@ def stays(tally: Tally, browser: Browser) -> None:
     cell = "const cell = document.querySelector('[data-cell=\"eofb.normal\"]'); cell.focus(); cell.click();"
     browser.go(FLIPPED)
     browser.walk(tally, "a list that comes", ("script", cell + FOCUS, "own", {"focus": "own"}))
-    browser.script(SLACK + "part('solutions-stop').focus()", "slack", "3")
-    browser.walk(tally, "a stop of a list", ("press", Keys.ENTER, {"focus": "solutions-heading", "said": "Stopped."}))
-    browser.script(cell + "cell.click(); part('solutions-stop').click()")
-    browser.walk(tally, "another slack after a stop", ("script", SLACK, "slack", "1", {"focus": "slack"}))
+    browser.script(SLACK + "part('solutions-close').focus()", "slack", "3")
+    browser.walk(tally, "a list that is given up", ("press", Keys.ENTER, {"focus": "eofb.normal"}))
+    browser.script(cell)
+    browser.walk(tally, "another slack after that", ("script", SLACK, "slack", "1", {"focus": "slack"}))
     browser.go(ADDRESS)
     browser.walk(tally, "continuations that come", ("script", FOCUS, "own", {}), ("wait_best", {"focus": "own"}))
 
@@ -134,14 +136,12 @@ def says_typed(tally: Tally, browser: Browser) -> None:
 
 def comes_back(tally: Tally, browser: Browser) -> None:
     """By the browser's Back no focus is lost with what it closes or dims."""
-    for keys in ("", Keys.ENTER):
-        browser.go(FLIPPED)
-        browser.walk(tally, "a step", ("submit", "own", "R R'", {}), ("comes", "steps", 1, {}))
-        browser.click('[data-cell="eofb.normal"]')
-        browser.script(SLACK + "part('solutions-stop').focus()", "slack", "3")
-        browser.press(keys)
-        back(browser)
-        tally.equal(f"Back from a list, {len(keys)} keys on its stop", browser.focused(), "steps-heading")
+    browser.go(FLIPPED)
+    browser.walk(tally, "a step", ("submit", "own", "R R'", {}), ("comes", "steps", 1, {}))
+    browser.click('[data-cell="eofb.normal"]')
+    browser.script(SLACK + "part('solutions-close').focus()", "slack", "3")
+    back(browser)
+    tally.equal("Back from a list that is looked for", browser.focused(), "steps-heading")
 
 
 def one_stop(tally: Tally, browser: Browser) -> None:

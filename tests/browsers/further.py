@@ -31,11 +31,14 @@ WIDTHS = (1920, 1440, 1180, 1024, 960, 900, 768, 640, 601, 600, 430, 390, 360, 3
 # longer than the page waits before it goes on
 LONGER_THAN_REST = 2
 # it waits until it is asked for, and what was asked of the best
-FORGET = "try { localStorage.removeItem('nissy-further') } catch {}"
-# it goes on however slow the machine is
-ALWAYS = "try { localStorage.setItem('nissy-further', 'all') } catch {}"
 HELD_IS = "part('best-stop').textContent === 'Go on' && !part('best-stop').disabled"
 HELD = f"return {HELD_IS}"
+# it goes on however slow the machine is
+GO_ON = f"if ({HELD_IS}) part('best-stop').click();"
+# those of so many moves more were looked at
+FOUND = GO_ON + f"return / Up to %d longer: [0-9,]+ rows/.test({NOTE})"
+# what an older page kept of a choice that is gone
+CHOSEN = "localStorage.setItem('nissy-further', 'none')"
 ASKED = "return window.asked.filter((each) => each === 'best').length"
 # how many EOs have at most one move more than the shortest of their axis, over both sides or on one: told by all turns on both sides
 ORIENTATIONS = {"R U F": 68, "F R U F": 112}
@@ -63,7 +66,6 @@ def goes_on(tally: Tally, browser: Browser) -> None:
     Not while the page isn't seen; then to two moves more, to the same rows as if these had been asked for. Rows that are seen stay until they are
     asked to make room, and the note tells of these; then the first that is new has the focus, and nothing has moved before.
     """
-    script = browser.before_page(ALWAYS)
     begins(browser, WORSE)
     note, first, keys, top = (
         browser.text("best-note"),
@@ -77,10 +79,10 @@ def goes_on(tally: Tally, browser: Browser) -> None:
     seen = (browser.text("best-note"), browser.script(ROWS), browser.script(ENDED))
     tally.equal("it waits while the page isn't seen", seen, (note, first, True))
     browser.script(TURN, True)
-    tally.holds("then come those of one move more", browser.until(f"return {NOTE}.includes(' Up to 1 longer: ')"))
+    tally.holds("then come those of one move more", browser.until(FOUND % 1))
     tally.holds("more is found", browser.until(IS_NEW))
     tally.equal("the rows stay", (browser.script(KEYS), browser.script(FIRST_ROW)), (keys, top))
-    tally.holds("and those of two", browser.until(f"return {NOTE}.includes(' Up to 2 longer: ')"))
+    tally.holds("and those of two", browser.until(FOUND % 2))
     tally.holds("to their end", browser.until(ENDED))
     tally.equal(
         "to the end", (browser.script(KEYS), browser.script(FIRST_ROW), browser.script(height)), (keys, top, before)
@@ -99,8 +101,6 @@ def goes_on(tally: Tally, browser: Browser) -> None:
         (keys, True, "0"),
     )
     shows_found(tally, browser, first, top)
-    browser.no_longer(script)
-    browser.script(FORGET)
 
 
 def shows_found(tally: Tally, browser: Browser, first: list[list[str]], top: int) -> None:
@@ -158,15 +158,15 @@ def stays(tally: Tally, browser: Browser) -> None:
 
 
 def pauses(tally: Tally, browser: Browser) -> None:
-    """A page that is left looks for nothing, and goes on once it is seen again; a stop ends it, and a choice keeps it from beginning."""
-    scripts = [browser.before_page(each) for each in (LISTEN, ALWAYS)]
+    """A page that is left looks for nothing, and goes on once it is seen again; a stop ends it."""
+    script = browser.before_page(LISTEN)
     begins(browser, WORSE)
     asked = "return window.asked.filter((each) => each === 'best').length"
     count = browser.script(asked)
     browser.script(TURN, True)
-    browser.until(f"return {NOTE}.includes(' Up to 1 longer: ')")
+    browser.until(FOUND % 1)
     # those of two moves more
-    browser.until(f"return window.asked.filter((each) => each === 'best').length > {count + 3}")
+    browser.until(GO_ON + f"return window.asked.filter((each) => each === 'best').length > {count + 3}")
     workers = browser.workers()
     browser.script(TURN, False)
     end = time.monotonic() + 10
@@ -188,9 +188,7 @@ def pauses(tally: Tally, browser: Browser) -> None:
     tally.equal("and ends it", (browser.script(asked), browser.script(ENDED)), (count, True))
     browser.script(TURN, False)
     tally.equal("what it said stays once the page is left", browser.text("best-note"), note)
-    for each in scripts:
-        browser.no_longer(each)
-    browser.script(FORGET)
+    browser.no_longer(script)
     browser.open(address_of(SCRAMBLE))
 
 
@@ -201,18 +199,13 @@ def is_measured(tally: Tally, browser: Browser) -> None:
     """
     script = browser.before_page(LISTEN + SEEN)
     for of_what, prepared in (("few processors", browser.before_page(PROCESSORS % 2)), ("a phone", "")):
-        browser.script(FORGET)
         browser.command("Emulation.setTouchEmulationEnabled", enabled=not prepared)
         for scramble, count in ORIENTATIONS.items():
             begins(browser, scramble)
             tally.holds(f"{of_what}: it waits", browser.until(HELD))
             note, longer = browser.text("best-note"), rf"[0-9,]+ rows\. Up to 1 longer: {count} EOs, about [0-9]+ s\."
             tally.holds(f"{of_what}: it says how many there are: {note}", re.fullmatch(longer, note))
-            tally.equal(
-                f"{of_what}: and has asked nothing more",
-                (browser.value("best-further"), browser.script(ASKED)),
-                ("none", 3),
-            )
+            tally.equal(f"{of_what}: and has asked nothing more", browser.script(ASKED), 3)
         browser.click("#best-stop")
         tally.holds(
             f"{of_what}: asked, it goes on, and waits with the next ones",
@@ -222,33 +215,21 @@ def is_measured(tally: Tally, browser: Browser) -> None:
         if prepared:
             browser.no_longer(prepared)
     browser.command("Emulation.setTouchEmulationEnabled", enabled=False)
-    browser.script(FORGET)
     browser.no_longer(script)
 
 
-def is_chosen(tally: Tally, browser: Browser) -> None:
-    """By itself it goes up to ten seconds of one processor, and waits with more, unless it is to go on always, or never: what is chosen stays chosen."""
+def has_a_limit(tally: Tally, browser: Browser) -> None:
+    """By itself it goes up to ten seconds of one processor, and waits with more, whatever an older page kept."""
     script = browser.before_page(LISTEN + SEEN)
     begins(browser, FLIPPED)
     tally.holds("many are waited with", browser.until(HELD))
     note = browser.text("best-note")
     tally.holds(f"which it says: {note}", re.search(r" Up to 2 longer: about [0-9,]{9,} EOs, [0-9]+ (s|min)\.$", note))
-    tally.equal("though it may go on by itself", browser.value("best-further"), "some")
+    browser.script(CHOSEN)
     begins(browser, "R U F")
     tally.holds(
-        "as it does with few", browser.until(f"return {NOTE}.includes('Up to 2 longer: ')") and browser.until(ENDED)
+        "it goes on with few", browser.until(f"return {NOTE}.includes('Up to 2 longer: ')") and browser.until(ENDED)
     )
-    begins(browser, FLIPPED)
-    browser.choose("best-further", "all")
-    tally.holds(
-        "it goes on if that is chosen",
-        browser.until("return part('best-stop').textContent === 'Stop' && !part('best-stop').disabled"),
-    )
-    browser.choose("best-further", "none")
-    browser.reopen(address_of(WORSE))
-    browser.wait_best()
-    tally.holds("what is chosen stays chosen", browser.until(HELD) and browser.value("best-further") == "none")
-    browser.script(FORGET)
     browser.no_longer(script)
 
 

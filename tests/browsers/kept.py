@@ -294,7 +294,6 @@ def keeps_lengths(tally: Tally, browser: Browser) -> None:
     rows = browser.script(ROWS)
     tally.holds("a row has twins", browser.texts("#best-body .twins"))
     browser.script("document.querySelectorAll('#best-body .star').forEach((star) => star.click())")
-    browser.choose("kept-sort", "kept")
     browser.until(KEPT_SAID)
     said = [[words[0], words[-2].split(": ")[1]] for words in browser.script(KEPT_WORDS)]
     tally.equal(
@@ -309,7 +308,6 @@ def keeps_stages(tally: Tally, browser: Browser) -> None:
 
     def shown(scramble: str, *lines: str) -> list[list[str]]:
         browser.open(f"{scramble}&kept=" + ",".join(lines))
-        browser.choose("kept-sort", "kept")
         browser.until(KEPT_SAID)
         return browser.script(KEPT_WORDS.replace(".moves", ".moves, .total"))
 
@@ -319,9 +317,9 @@ def keeps_stages(tally: Tally, browser: Browser) -> None:
     oriented, reduced = ["(B D R F2 B D)", "EO U/D"], ["R B'", "D2 R", "DR F/B"]
     wanted = [
         [*oriented, *reduced, "10 in all"],
+        [*oriented, *reduced, "10 in all"],
         [*oriented, *reduced, "(F2)", "11 in all"],
         ["(B D)", "2 moves"],
-        [*oriented, *reduced, "10 in all"],
     ]
     tally.equal(
         "each step with what it reaches",
@@ -334,8 +332,9 @@ def keeps_stages(tally: Tally, browser: Browser) -> None:
     # U keeps the DR on its axis, and the other U brings both others back
     again = ["U R2", "(U)", "DR R/L", "DR F/B", "3 in all"]
     tally.equal("what held all the time isn't reached", shown("#scramble=U2", "normal.U_R2~inverse.U"), [again])
+    tally.equal("one that solves", shown("#scramble=F", "normal.F-"), [["F'", "solved", "1 move"]])
     tally.equal(
-        "two that are reached at once", shown("#scramble=F", "normal.F-"), [["F'", "DR U/D", "DR R/L", "1 move"]]
+        "two that are reached at once", shown("#scramble=U2_F", "normal.F-"), [["F'", "DR U/D", "DR R/L", "1 move"]]
     )
 
 

@@ -96,14 +96,21 @@ def switch(tally: Tally, browser: Browser) -> None:
     browser.walk(
         tally,
         "moves are taken back",
-        ("tab_to", "undo-move", 60, True, {}),
-        *(("press", Keys.ENTER, {"bracketed": f"({FIRST}) {moves}"}) for moves in ("R B' D2", "R B'")),
+        ("tab_to", "undo-step", 60, True, {}),
+        ("press", Keys.ENTER, {"bracketed": f"({FIRST})"}),
+        ("tab_to", "own", 60, {}),
+        ("press", "R B'", Keys.ENTER, {}),
+        ("comes", "steps", 2, {"bracketed": f"({FIRST}) R B'"}),
     )
     shows(tally, browser, "in mid-solution", "R B'", FIRST)
     listed = Position(SCRAMBLE, "R B'", FIRST).rows("drfb-eoud", "inverse")
     line = f"({FIRST}) R B' ({listed[0]})"
     total = sum(letter in "UDRLFB" for letter in answer("cleanup", line))
-    counts = ["6 moves", "2 moves, 8 in all", f"{len(listed[0].split())} moves, {total} in all"]
+    counts = [
+        "6 inverse moves",
+        "2 normal moves, 8 in all",
+        f"{len(listed[0].split())} inverse moves, {total} in all",
+    ]
     browser.walk(
         tally,
         "moves by hand go on the inverse side",

@@ -17,7 +17,7 @@ EDIT = """const item = part('line-list').children[arguments[0]]; item.querySelec
 
 
 def fmc_text(tally: Tally, browser: Browser) -> None:
-    """A line is copied as solvers write it, and read again; tabs are told apart, and a link is copied."""
+    """A line is copied as solvers write it, and read again; tabs are told apart."""
     browser.open(WRITTEN + "&steps=inverse.B_D_R_F2_B_D~normal.R_B-~normal.D2_R")
     before = browser.hash()
     browser.click("#copy-fmc")
@@ -29,9 +29,9 @@ def fmc_text(tally: Tally, browser: Browser) -> None:
         tally, "it is read again", ("go", {}), ("fill", "scramble", text, {}), ("comes", "steps", 3, {"hash": before})
     )
     tally.holds("tabs are told apart", "(B D R F2 B D) R B'" in browser.look("title"))
-    browser.click("#copy-link")
-    copied = "return part('status').textContent.startsWith(`Copied: ${location.href}`)"
-    tally.holds("a link is copied", browser.until(copied))
+    browser.go("#scramble=U2_R&steps=normal.R-~normal.U2")
+    solved_by = browser.text("fmc").split("\n")
+    tally.equal("a step that solves", solved_by[-1], "U2 // solved (1/2)")
 
 
 def edits(tally: Tally, browser: Browser) -> None:
@@ -79,7 +79,8 @@ def takes_away(tally: Tally, browser: Browser) -> None:
         ("act", "#line-list li:nth-child(1) button:nth-of-type(2)", {said: [["", "no longer DR F/B"]]}),
         ("script", "history.back()", {}),
         ("comes", "steps", 2, whole),
-        ("act", "#undo-move", {said: [["EO U/D", ""], ["", ""]]}),
+        ("script", EDIT, 1, "R B' D2", {}),
+        ("comes", "bracketed", "(B D R F2 B D) R B' D2", {said: [["EO U/D", ""], ["", "no longer DR F/B"]]}),
     )
 
 
@@ -96,7 +97,7 @@ def edits_early(tally: Tally, browser: Browser) -> None:
         tally,
         "left as it was",
         ("wait", {"alert": "", "return part('results').inert": False}),
-        ("press", Keys.ESCAPE, {"#line-list .count": ["2 moves"]}),
+        ("press", Keys.ESCAPE, {"#line-list .count": ["2 normal moves"]}),
     )
 
 
@@ -111,7 +112,6 @@ def keeps_focus(tally: Tally, browser: Browser) -> None:
         tally,
         "a step is changed",
         ("comes", "bracketed", "R (U2) L", {"label": "Edit on the inverse side U2"}),
-        ("choose", "kept-sort", "kept", {}),
     )
     for selector, place, wanted in (
         ("#line-list button", 4, "Remove L"),
@@ -138,8 +138,8 @@ def other_side(tally: Tally, browser: Browser) -> None:
         tally,
         "a step",
         ("go", address_of(LONGER) + "&steps=normal.B_D_R_F2_B_D", {said: [""], hint: ["EO U/D on the other side"]}),
-        ("script", switch, 0, on_inverse | {hint: [""]}),
-        ("script", switch, 0, {"bracketed": "B D R F2 B D", said: [""]}),
+        ("script", switch, 0, on_inverse | {hint: [""], "#line-list .count": ["6 inverse moves"]}),
+        ("script", switch, 0, {"bracketed": "B D R F2 B D", said: [""], "#line-list .count": ["6 normal moves"]}),
         ("go", "#scramble=R_U_F&steps=normal.D~normal.R2.inverse.L", {"bracketed": "D R2 (L)"}),
         ("script", switch, 1, {"bracketed": "D L (R2)", "steps": 2}),
     )

@@ -200,7 +200,7 @@ def helps(tally: Tally, browser: Browser) -> None:
     """Each help opens by the keyboard, fits, is said, and closes."""
     seen = "seen('[popovertarget]')"
     buttons = browser.script(f"return {seen}.map((each) => each.ariaLabel)")
-    tally.holds("there is help", len(buttons) >= 7)
+    tally.holds("there is help", len(buttons) >= 6)
     for name in buttons:
         browser.script("document.querySelector(`[popovertarget][aria-label='${arguments[0]}']`).focus()", name)
         browser.press(Keys.ENTER)
@@ -218,12 +218,12 @@ def copies(tally: Tally, browser: Browser) -> None:
     copied = (
         "return part('status').textContent === `Copied: ${arguments[0]}` || String(getSelection()) === arguments[0]"
     )
-    for name in ("bracketed", "joined"):
+    for name, word in (("joined", "Copy"), ("fmc", "Copy as FMC text")):
         line = browser.text(name)
         browser.click(f"#copy-{name}")
         tally.holds(f"{name} is copied: {browser.look('said')}", browser.until(copied, line))
         tally.holds("its button says so", browser.text(f"copy-{name}") == "Copied")
-        tally.holds("for a moment", browser.comes(f"copy-{name}", "Copy"))
+        tally.holds("for a moment", browser.comes(f"copy-{name}", word))
 
 
 def with_a_fault(tally: Tally, browser: Browser) -> None:

@@ -240,7 +240,6 @@ def places(tally: Tally, browser: Browser) -> None:
             "own",
             "switch",
             "bracketed",
-            "copy-bracketed",
             *(() if is_narrow else ("joined", "copy-fmc", "net-normal", "net-inverse")),
         )
         beside = """const [line, steps] = ['line', 'steps'].map((name) => part(name).getBoundingClientRect());

@@ -15,7 +15,6 @@ TWO_KEPT = "&kept=inverse.B_D_R_F2_B_D,normal.R-_U_F-_R_L;a_note"
 # how another scramble comes
 WAYS = {
     "a random one": "part('random').click()",
-    "an example": "document.querySelector('[data-example]').click()",
     "a text that is pasted": """const field = part('scramble'); field.value = arguments[0];
         field.dispatchEvent(new InputEvent('input', { inputType: 'insertFromPaste' }))""",
 }

@@ -25,7 +25,7 @@ def begin(browser: Browser, tally: Tally, what: str) -> None:
     browser.walk(
         tally,
         what,
-        ("choose", "kept-sort", "kept", {"desk?": False}),
+        ("wait", {"desk?": False}),
         ("script", PASTE, MEAN, {}),
         ("comes", CHIPS, ["1", "2", "3"], {SHOWN: ["1"], "scramble=": "R U F", "scramble-read": ""}),
     )
@@ -97,10 +97,10 @@ def keeps_what_back_leaves(tally: Tally, browser: Browser) -> None:
         (
             "follow",
             "#scramble=R_U_F&steps=normal.B&kept=normal.B2",
-            {KEPT: ["D", "D L", "B2"], "bracketed": "B", CHIPS: ["1 ★3", "2", "3"]},
+            {KEPT: ["D", "B2", "D L"], "bracketed": "B", CHIPS: ["1 ★3", "2", "3"]},
         ),
         ("follow", "#scramble=R_U_F", {"bracketed": "B", "kept": 3}),
-        ("follow", "#scramble=R_U_F&steps=normal.F", {"bracketed": "F", KEPT: ["D", "D L", "B2", "B"]}),
+        ("follow", "#scramble=R_U_F&steps=normal.F", {"bracketed": "F", KEPT: ["D", "B2", "B", "D L"]}),
     )
 
 
@@ -119,7 +119,8 @@ def opens_steps(tally: Tally, browser: Browser) -> None:
 
 
 def removes(tally: Tally, browser: Browser) -> None:
-    """A scramble is taken away with what was done, and brought back."""
+    """A scramble is taken away with what was done; the browser's Back brings it back, which is said."""
+    said = "Scramble 2 was removed: the browser's Back brings it back."
     begin(browser, tally, "a mean")
     browser.walk(
         tally,
@@ -132,14 +133,19 @@ def removes(tally: Tally, browser: Browser) -> None:
         (
             "act",
             "#desk-remove",
-            {CHIPS: ["1", "2"], SHOWN: ["2"], "scramble=": "B2 R D", "desk-removed-words": "Scramble 2 was removed."},
+            {CHIPS: ["1", "2"], SHOWN: ["2"], "scramble=": "B2 R D", "#said": [said]},
         ),
-        ("act", "#desk-back", {CHIPS: ["1", "2 ★1", "3"], SHOWN: ["2 ★1"], "bracketed": "B", "desk-removed?": False}),
+        ("script", "history.back()", {}),
+        ("comes", "bracketed", "B", {CHIPS: ["1", "2", "3 ★1"], SHOWN: ["3 ★1"], KEPT: ["B"], "n :popover-open": 0}),
     )
-    lefts: tuple[list[str], ...] = (["1", "2"], ["1"], [])
-    for left in lefts:
-        browser.walk(tally, f"{len(left)} are left", ("act", "#desk-remove", {CHIPS: left}))
-    browser.walk(tally, "the last one comes back", ("act", "#desk-back", {CHIPS: ["1"], "welcome?": False}))
+    browser.walk(
+        tally,
+        "one is left",
+        ("act", "#desk-remove", {CHIPS: ["1", "2"]}),
+        ("act", "#desk-remove", {CHIPS: ["1"], "desk?": False}),
+        ("script", "history.back()", {}),
+        ("comes", CHIPS, ["1", "2"], {"scramble=": "B2 R D"}),
+    )
 
 
 def copies(tally: Tally, browser: Browser) -> None:

@@ -12,8 +12,9 @@ from wanted import SIDES, Position, is_earlier
 FLIPPED = "U R2 F B R B2 R U2 L B2 R U' D' R2 F R' L B2 U2 F2"
 # how many solutions a list may have
 MOST_LISTED = 100_000
-STOP = CHOOSE + "part('solutions-stop').click()"
-EXAMPLE = "document.querySelector('[data-example]').click();"
+GIVE_UP = CHOOSE + "part('solutions-close').click()"
+ANOTHER = """const it = part('scramble'); it.value = arguments[0];
+    it.dispatchEvent(new InputEvent('input', { inputType: 'insertFromPaste' }));"""
 BLUR = "document.activeElement?.blur()"
 
 
@@ -85,7 +86,7 @@ def marked(tally: Tally, browser: Browser) -> None:
 
 
 def long_list(tally: Tally, browser: Browser) -> None:
-    """The longest list that the page offers, and a stop of it; a filter that is typed meanwhile. What isn't known is never said to be none."""
+    """The longest list that the page offers, and one that is closed meanwhile; a filter that is typed. What isn't known is never said to be none."""
     note = "return part('solutions-note').textContent"
     browser.open(address_of(LONGER) + "&list=eoud.inverse.0")
     tally.equal(
@@ -96,10 +97,13 @@ def long_list(tally: Tally, browser: Browser) -> None:
     browser.wait()
     wanted = [moves for moves in Position(LONGER).rows("eoud", "inverse", 1) if " B D R " in f" {moves} "]
     tally.equal("it is kept for the list", browser.listed(), wanted)
-    browser.walk(tally, "a list is stopped", ("script", STOP, "3", {"solutions-note": "Stopped."}))
-    tally.equal("a filter that is typed after a stop", browser.script(TYPE + note, "", "F"), "Stopped.")
-    browser.script(TYPE + CHOOSE.replace("arguments[0]", "arguments[2]"), "", "", "2")
-    browser.wait()
+    browser.walk(
+        tally,
+        "a list is closed while it is looked for",
+        ("script", GIVE_UP, "3", {"solutions?": False}),
+        ("act", '[data-cell="eoud.inverse"]', {"filter=": "", "slack=": "0"}),
+        ("script", CHOOSE, "2", {}),
+    )
     lines = program_answers(browser.program, ["near", "eoud", "20", "2", f"({LONGER})"], [])
     found = [line.split(" (")[0] for line in lines if line.endswith(")")]
     count = sum(not is_earlier(moves, set(found)) for moves in found)
@@ -125,7 +129,7 @@ def hasty(tally: Tally, browser: Browser) -> None:
     browser.wait()
     tally.equal("another slack at once", browser.listed(), Position(LONGER).rows("eoud", "inverse", 1)[:200])
     browser.go(address_of(SCRAMBLE))
-    browser.script(EXAMPLE + cell)
+    browser.script(ANOTHER + cell, LONGER)
     browser.wait()
     listed = Position(LONGER).rows("eoud", "inverse")
     tally.equal("a hasty choice is answered for the scramble that is shown", browser.listed(), listed)
@@ -153,7 +157,7 @@ def impatient(tally: Tally, browser: Browser) -> None:
     browser.walk(
         tally,
         "moves that are sent three times at once",
-        ("script", EXAMPLE + add, {}),
+        ("script", ANOTHER + add, SCRAMBLE, {}),
         ("until", "return all('#line-list li').length > 0", {"bracketed": "R", "own-fault": "", "own=": ""}),
     )
     browser.walk(

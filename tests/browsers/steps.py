@@ -40,9 +40,9 @@ def history(tally: Tally, browser: Browser) -> None:
     both = browser.text("bracketed")
     browser.walk(tally, "a step, moves by hand and Clear make one each", ("act", "#clear", {count: entries + 3}))
     back(browser)
-    browser.walk(tally, "Back after Clear", ("wait", {"bracketed": both}), ("act", "#undo-move", {"bracketed": first}))
+    browser.walk(tally, "Back after Clear", ("wait", {"bracketed": both}), ("act", "#undo-step", {"bracketed": first}))
     for what, looks in (
-        ("an undone move", {"bracketed": both}),
+        ("an undone step", {"bracketed": both}),
         ("moves by hand", {"bracketed": first}),
         ("a step", {"bracketed": "", "side": "inverse side", "solutions-heading": "EO F/B, inverse side"}),
     ):
@@ -137,7 +137,7 @@ def returns(tally: Tally, browser: Browser) -> None:
 
 def leaves_list(tally: Tally, browser: Browser) -> None:
     """An open list doesn't outlast its cube, is closed by its cell, its button and a key, and is looked for once."""
-    for act in ("#undo-step", "#undo-move", "#clear", "#bar-undo", "#best-body .take"):
+    for act in ("#undo-step", "#clear", "#bar-undo", "#best-body .take"):
         browser.go(ADDRESS + "&steps=normal.D2_R2_L_U")
         browser.wait_best()
         browser.act('[data-cell="drrl-eoud.normal"]')

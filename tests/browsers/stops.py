@@ -6,7 +6,7 @@ from tally import Tally
 STOPS = {
     "skip",
     "scramble-edit",
-    "undo-move",
+    "undo-step",
     "own",
     "switch",
     "copy-joined",
@@ -19,7 +19,6 @@ STOPS = {
     "marks",
     "play",
     "keep-line",
-    "copy-link",
     "theme",
     "solutions-close",
     "twins",

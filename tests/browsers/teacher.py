@@ -48,6 +48,17 @@ def tells_why(tally: Tally, browser: Browser) -> None:
         re.findall(r"(Normal|Inverse): (?:\w\w at )?UB is ", browser.text("why")),
         ["Normal", "Inverse"],
     )
+    # what is said of a piece is of the cube that is shown
+    browser.go("#scramble=F&steps=normal.F-")
+    browser.choose("marks", "EO F/B")
+    said_in_the_end = browser.script(PRESS, 7)
+    browser.act("#play-back")
+    browser.until("return part('played').textContent.startsWith('0 of 1')")
+    tally.equal(
+        "before the move",
+        [" is bad for EO F/B" in text for text in (said_in_the_end, browser.text("why"))],
+        [False, True],
+    )
     # by hand: a quarter turn of F makes its four edges bad for F/B, and UR stays as it was
     browser.go("#scramble=F")
     browser.choose("marks", "EO F/B")

@@ -5,8 +5,7 @@ from looks import SCRAMBLE
 from tally import Tally
 
 LINE = SCRAMBLE + "&steps=inverse.B_D_R_F2_B_D"
-REFUSED = """Object.defineProperty(navigator, "clipboard", { value: undefined });
-    Document.prototype.execCommand = () => false;"""
+REFUSED = 'Object.defineProperty(navigator, "clipboard", { value: undefined })'
 PLAYED = "return part('played').textContent.split(':')[0] === arguments[0]"
 
 
@@ -139,7 +138,7 @@ def goes_on_with_reduction(tally: Tally, browser: Browser) -> None:
         ("act", "#kept-list button", {"solutions-heading": "DR F/B after EO U/D, normal side"}),
         ("until", has_focus, {}),
     )
-    anew = "const it = document.querySelector('#kept-list button'); it.focus(); it.click(); part('kept-sort').dispatchEvent(new Event('change'))"
+    anew = "const [on, compare] = all('#kept-list button'); on.focus(); on.click(); compare.click()"
     browser.walk(
         tally,
         "its row is drawn anew meanwhile",

@@ -1,6 +1,7 @@
 """Scrambles and moves that turn the whole cube: what is listed for them reaches its step, and the page says how it reads them."""
 from addresses import is_shown
 from browser import Browser
+from kept import KEPT_SAID
 from tally import Tally
 from wanted import SIDES, TITLES, Position
 
@@ -104,11 +105,12 @@ def by_hand(tally: Tally, browser: Browser) -> None:
 def kept(tally: Tally, browser: Browser) -> None:
     """Lines that an address keeps are read as its steps are; one that can't be read is said, and stays."""
     lines = {f"normal.{written(typed)}": faces for typed, faces in LINES if faces and "(" not in typed}
+    sorted_lines = "return all('#kept-list .step .moves').map((each) => each.textContent).sort()"
     browser.walk(
         tally,
         "by their face turns",
         ("go", "#scramble=F&kept=" + ",".join(lines), {}),
-        ("choose", "kept-sort", "kept", {"#kept-list .step .moves": list(lines.values())}),
+        ("until", KEPT_SAID, {sorted_lines: sorted(lines.values())}),
         ("go", "#scramble=F&kept=normal.M_2,normal.R", {}),
         (
             "until",

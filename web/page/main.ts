@@ -2,7 +2,6 @@
 // compiled once for all workers.
 import { compiled } from "../module/engine/source.js";
 import { Calls, workersOf } from "./shared/questions.js";
-import { copyLink } from "./shared/copying.js";
 import { part } from "./shared/element.js";
 import { Page } from "./page.js";
 import { Reader } from "./shared/reader.js";
@@ -36,7 +35,6 @@ part("unstarted").remove();
 offerThemes();
 offerCover();
 placeHelp();
-part("copy-link").addEventListener("click", ({ currentTarget }) => copyLink(currentTarget));
 // if it can't be compiled each worker says why, once it is asked
 const module = unpacked("engine-module").then((bytes) => compiled(bytes).catch(() => bytes));
 Promise.all([module, unpacked("worker-script")]).then(start);

@@ -61,9 +61,7 @@ function bestOfAxis(
   return { rows: reductionsInWords(nissy, positionAfter(nissy, scramble, parts).lines.normal, rows), tried };
 }
 
-function build(nissy: Nissy, { step }: { step: Step }) {
-  nissy.count(step, "");
-}
+const build = (nissy: Nissy, { step }: { step: Step }) => void nissy.count(step, "");
 
 /** Finds the best of one axis of any scramble: a browser compiles well only what has run, so the first answer that
  * someone waits for would take half as long again. */

@@ -7,7 +7,7 @@ import { lastOf } from "./shared/certain.js";
 import { Nets } from "./cards/cube.js";
 import { announce, announceLater, part, setBusy, spoken, tell } from "./shared/element.js";
 import { NextFocus, type Where } from "./state/next-focus.js";
-import { DeskStrip, type Keeping } from "./cards/desk-strip.js";
+import { DeskStrip, type Keeping } from "./cards/scrambles-on-desk.js";
 import { KeptCandidates } from "./cards/kept.js";
 import { LineSoFar } from "./cards/line.js";
 import { withOthers } from "./state/kept-lines.js";
@@ -24,7 +24,7 @@ import {
   awaitAnswer, isBare, keepInView, listenToKeys, setUsable, showBeginning, showStart, star,
 } from "./shared/view.js";
 import { tellFailed } from "./shared/watch.js";
-import { titleOfPage, unanswered, whyNotListed, whyUnread } from "./shared/words.js";
+import { titleOfPage, unanswered, whyNotListed, whyUnread, wordsOfDoubt } from "./shared/words.js";
 import type { Examined, Offer } from "./answers/examine.js";
 import type { Reader } from "./shared/reader.js";
 import type { Row } from "./cards/finder.js";
@@ -108,6 +108,8 @@ export class Page {
 
   /** @param state of the history, to which the browser's Back or Forward leads */
   returnTo(state: unknown) {
+    // what it undoes isn't said any longer
+    if (state !== null && part("said").matches(":popover-open")) part("said").hidePopover();
     this.#wayBack.set(placeIn(state));
   }
 
@@ -182,12 +184,13 @@ export class Page {
     if (!fmc) return;
     const turn = this.#turn;
     try {
-      const { unread, parts, kept, doubt } = await this.#byHand.ask("readWritten", fmc);
+      const { unread, parts, kept, doubt, doubted } = await this.#byHand.ask("readWritten", fmc);
       if (turn !== this.#turn) return;
       const joined = withOthers(this.#state.kept, kept);
       this.#change({ ...(parts.length > 0 && { parts }), kept: joined.kept }, { isStep: !isNew });
       tell(part("alert"), whyUnread(unread) || joined.why);
       this.#scramble.tellDoubt(doubt);
+      if (doubt !== null) this.#line.tellDoubt(doubted, wordsOfDoubt(doubt, fmc.text));
     } catch (fault) {
       if (turn === this.#turn && !(fault instanceof Stopped)) tell(part("alert"), unanswered(fault));
     }

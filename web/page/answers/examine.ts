@@ -33,9 +33,8 @@ export type Walk = {
 };
 
 /** The cube after each beginning of some parts of a scramble, from none to all. @param scramble by its face turns */
-function positionsOf(nissy: Nissy, scramble: string, parts: Part[]): Position[] {
-  return [...parts, null].map((_, count) => positionAfter(nissy, scramble, parts.slice(0, count)));
-}
+const positionsOf = (nissy: Nissy, scramble: string, parts: Part[]): Position[] =>
+  [...parts, null].map((_, count) => positionAfter(nissy, scramble, parts.slice(0, count)));
 
 /** The first reduction that is reached after an orientation, and between which beginnings that lies. */
 function reductionIn(reached: string[][]) {

@@ -1,10 +1,8 @@
-// How lines are read, by the engine at hand: as it writes them, and by face turns alone if they turn the whole cube. It
-// pushes such turns to the end of a line; there they are left out, so that each letter names one face in all that
-// follows.
+// How lines are read, by the engine at hand: as it writes them, and by face turns alone if they turn the whole cube.
+// Such turns, which it puts at the end, are left out, so that each letter names one face in all that follows.
 import { NissyFault, type FaultParts } from "../../module/shared/faults.js";
 import { LONGEST_NOTE, MOST_MOVES } from "../state/limits.js";
 import { SIDES, bracketed, joined, type Part, type Side } from "../shared/offered-steps.js";
-import type { AttemptDoubt } from "../../module/text/attempts.js";
 import type { Candidate } from "../state/address.js";
 import type { Nissy } from "../../module/nissy.js";
 import type { PlainLine } from "../../module/text/written.js";
@@ -51,31 +49,31 @@ export function readByHand(nissy: Nissy, { text, side }: { text: string; side: S
 
 export type Unread = { line: string; fault: FaultParts };
 
-/** The steps of some lines of text, as solvers write them, up to the first that can't be read. */
-function readAllByHand(nissy: Nissy, steps: PlainLine[]): { parts: Part[]; unread: Unread | null } {
-  const parts = [];
+/** The steps of some lines of text, up to the first that can't be read, and where in the text each of them begins. */
+function readAllByHand(nissy: Nissy, steps: PlainLine[]): { parts: Part[]; begins: number[]; unread: Unread | null } {
+  const [parts, begins]: [Part[], number[]] = [[], []];
   for (const each of steps) {
     const line = each.line.trim();
     try {
-      parts.push(...readByHand(nissy, { text: line, side: "normal" }));
+      const read = readByHand(nissy, { text: line, side: "normal" });
+      parts.push(...read);
+      begins.push(...read.map(() => each.places[0]));
     } catch (fault) {
       if (!(fault instanceof NissyFault)) throw fault;
-      return { parts, unread: { line, fault: fault.parts() } };
+      return { parts, begins, unread: { line, fault: fault.parts() } };
     }
   }
-  return { parts, unread: null };
+  return { parts, begins, unread: null };
 }
 
 /** A text as solvers write it, and which of its attempts is meant. */
 export type Written = { text: string; at: number };
 
-/** The steps and the candidates of an attempt, the first line of it that can't be read, if any, and what makes one
- * doubt how it was read. */
-export function readWritten(
-  nissy: Nissy, { text, at }: Written,
-): { parts: Part[]; kept: Candidate[]; unread: Unread | null; doubt: AttemptDoubt | null } {
+/** The steps and the candidates of an attempt, the first line of it that can't be read, if any, what makes one doubt
+ * how it was read, and which step is in doubt, or -1. */
+export function readWritten(nissy: Nissy, { text, at }: Written) {
   const { attempt: { steps, candidates }, doubt } = nissy.checkAttempts(text)[at];
-  const { parts, unread } = readAllByHand(nissy, steps);
+  const { parts, begins, unread } = readAllByHand(nissy, steps);
   const read = candidates.map((each) => ({ note: each.note, ...readAllByHand(nissy, each.steps) }));
   // an address has no candidate without moves
   const kept = read.filter((each) => each.parts.length > 0);
@@ -84,6 +82,7 @@ export function readWritten(
     kept: kept.map((each) => ({ parts: each.parts, note: each.note.slice(0, LONGEST_NOTE), next: "" })),
     unread: [unread, ...read.map((each) => each.unread)].find((each) => each !== null) ?? null,
     doubt,
+    doubted: begins.findIndex((begin) => text.slice(0, begin).split("\n").length === doubt?.place.line),
   };
 }
 

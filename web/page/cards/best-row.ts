@@ -19,8 +19,7 @@ function cell(name: "td" | "th", attributes: Attributes, ...children: (Node | st
   return element(name, { ...role, ...attributes }, ...children);
 }
 
-/** The cell of a row's moves and twins, and of the reduction after them; it tells the style of a narrow page how many
- * signs its line has. */
+/** The cell of a row's moves and twins, and of the reduction after them; it tells the style how many signs it has. */
 function movesCell(take: HTMLElement, line: string, twins: string[], next: Next | null) {
   // as solvers write it: the last turn may be the one or the other
   const words = twins.length === 1 ? ` / ${twins[0].replace(/[()]/g, "")}` : ` or ${twins.length} twins`;

@@ -8,7 +8,6 @@ import { Filters, casesOfBest, filtersOfBest, offerCases, offerMoves } from "./f
 import { KnownSearches, betterThan, findAll, type Progress, type Question, type Row } from "./finder.js";
 import { FURTHEST, FurtherSearch, type Further } from "./further-search.js";
 import { GREATEST_SLACK } from "../state/limits.js";
-import { Measure } from "./measure.js";
 import { addRows, roveWithin, showRows, takeNamed } from "../shared/rows.js";
 import { isReduced, type Part } from "../shared/offered-steps.js";
 import { isNarrow, withoutMoving } from "../shared/view.js";
@@ -41,7 +40,6 @@ export class BestContinuations {
   #isAsked = false;
   #isOfReductions = false;
   #further: FurtherSearch;
-  #measure: Measure;
   #found = new KnownSearches();
   #counts: ShownCounts;
   #shown = 0;
@@ -52,9 +50,11 @@ export class BestContinuations {
   /** @param calls that tell more of rows that are seen */
   constructor(private readonly finders: Calls[], calls: Calls, private readonly acts: BestActs) {
     this.#counts = new ShownCounts(calls, this.#body);
-    this.#measure = new Measure(() => this.#turnFurther());
-    this.#further = new FurtherSearch(finders, this.#measure, {
-      turned: () => this.#turned(),
+    this.#further = new FurtherSearch(finders, {
+      turned: () => {
+        this.#working(this.#isAsked);
+        if (!this.#isAsked) this.#tellRows();
+      },
       looked: (done, all) => this.#tellAxes(done, all),
       found: (progress) => this.#foundFurther(progress),
       ended: (fault) => this.#endedFurther(fault),
@@ -71,7 +71,7 @@ export class BestContinuations {
   /** Takes another cube, or none, and looks for the best of it. */
   reset(cube: CubeOfBest | null) {
     this.#stop();
-    if (cube?.scramble !== this.#question?.scramble) this.#measure.begin();
+    if (cube?.scramble !== this.#question?.scramble) this.#further.measure.begin();
     this.#question = cube && { ...cube, slack: 0 };
     [this.#progress, this.#newer] = [null, null];
     this.#seen = [];
@@ -90,7 +90,7 @@ export class BestContinuations {
 
   #begin({ reached, longer, ...cube }: CubeOfBest) {
     const isOfReductions = reached.length > 0;
-    for (const name of ["best-unasked", "best-filters"]) part(name).hidden = isOfReductions;
+    part("best-filters").hidden = isOfReductions;
     // the cases of reductions belong to one cube
     if (isOfReductions || this.#isOfReductions) part("best-cases").value = "";
     this.#isOfReductions = isOfReductions;
@@ -190,18 +190,6 @@ export class BestContinuations {
     this.#complete();
     if (this.#isAsked) return;
     this.#further.begin({ ...present(this.#question), slack: present(this.#waiting() ?? this.#progress).slack });
-  }
-
-  #turned() {
-    this.#working(this.#isAsked);
-    if (!this.#isAsked) this.#tellRows();
-  }
-
-  /** Goes on from what was found, as is chosen now. */
-  #turnFurther() {
-    if (this.#isAsked || !this.#progress) return;
-    this.#stop();
-    this.#goFurther();
   }
 
   #foundFurther(progress: Further) {
@@ -357,8 +345,7 @@ export class BestContinuations {
     this.#complete();
   }
 
-  /** Shows rows below those that are seen, or in place of them. One that moved among others would be a shift of what
-   * is seen, so then all are made anew. */
+  /** Shows rows below those that are seen; if one of them would move among others all are made anew. */
   #showRows(rows: Row[]) {
     const stay = this.#seen.every((row, at) => row.key === rows[at]?.key) ? this.#seen.length : 0;
     this.#seen = rows;

@@ -54,6 +54,7 @@ export class Nets {
   #timer = 0;
   #open = "";
   #pointed = "";
+  /** of which sides it is said why a piece is bad */ #asked: readonly Side[] = SIDES;
   #choice = part("marks");
   #play = part("play");
 
@@ -64,7 +65,10 @@ export class Nets {
       net.addEventListener("click", ({ target }) => this.#press(side, stickerOf(net, target)));
     }
     part("piece").append(...PIECES.map((name) => element("option", { value: stickersOf([name])[0] }, name)));
-    part("piece").addEventListener("change", () => this.#tellWhy(SIDES));
+    part("piece").addEventListener("change", () => {
+      this.#asked = SIDES;
+      this.#tellWhy();
+    });
     part("cube-large").addEventListener("click", () => this.#enlarge(!part("cube").matches(".large")));
     part("cube").addEventListener("keydown", (event) => this.#typed(event));
     const kinds = ["EO", "DR"].flatMap((kind) => AXES.map((axis) => `${kind} ${axisName(axis)}`));
@@ -101,7 +105,6 @@ export class Nets {
     part("cube").hidden = false;
     part("player").hidden = count === 0;
     part("piece").value = "";
-    tell(part("why"), "");
     this.#draw();
   }
 
@@ -110,14 +113,16 @@ export class Nets {
     // a centre is no piece of these
     const at = PIECES.findIndex((name) => stickersOf([name]).includes(sticker));
     part("piece").selectedIndex = at + 1;
-    this.#tellWhy([side]);
+    this.#asked = [side];
+    this.#tellWhy();
   }
 
-  #tellWhy(sides: readonly Side[]) {
+  /** Says of the piece that is asked for why it is bad, or good, on the cube that is shown. */
+  #tellWhy() {
     const piece = PIECES[part("piece").selectedIndex - 1];
     const { views, choice } = this.#shown();
     const why = (side: Side) => whyOf(views[side].letters, piece, choice);
-    const sentences = sides.map((side) => `${nameOfSide(side)}: ${piece && why(side)}`);
+    const sentences = this.#asked.map((side) => `${nameOfSide(side)}: ${piece && why(side)}`);
     tell(part("why"), piece ? sentences.join(" ") : "");
   }
 
@@ -199,6 +204,7 @@ export class Nets {
     }
     const move = this.#frames?.[this.#frame].move;
     part("played").textContent = `${this.#frame} of ${this.#count}${move ? `: ${move}` : ""}`;
+    this.#tellWhy();
   }
 
   #shown() {

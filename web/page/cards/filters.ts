@@ -103,9 +103,7 @@ export const filtersOfBest = () => [
 /** The filters of a card, which says how many of them are on, and if they leave nothing; a button clears them. */
 export class Filters<Row> {
   /** @param changed says whether there are rows that may be left */
-  constructor(
-    private readonly name: string, note: HTMLElement, public kinds: Kind<Row>[], changed: () => boolean,
-  ) {
+  constructor(private readonly name: string, note: HTMLElement, public kinds: Kind<Row>[], changed: () => boolean) {
     for (const field of this.#fields()) {
       if (!field.matches("input")) field.addEventListener("change", changed);
       // once nothing more is typed it is said what is left

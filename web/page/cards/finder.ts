@@ -78,9 +78,7 @@ export function together(each: FoundOnAxis[], question: Question): Found {
 }
 
 /** Finds the best of one axis. @param tell told how many were tried */
-export function findOnAxis(
-  finders: Calls[], axis: number, question: Question, tell: (tried: number) => void,
-): Promise<FoundOnAxis> {
+export function findOnAxis(finders: Calls[], axis: number, question: Question, tell: (tried: number) => void) {
   const finder = finders[axis];
   // it is needed now, and its tables may wait
   finder.drop();

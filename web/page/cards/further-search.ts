@@ -3,7 +3,7 @@
 // as a measure allows them, and after that once they are asked for.
 import { thrownError } from "../shared/certain.js";
 import { findOnAxis, together, type Found, type FoundOnAxis, type Question } from "./finder.js";
-import { mostTogether, type Measure } from "./measure.js";
+import { Measure, mostTogether } from "./measure.js";
 import { ORIENTATIONS } from "../shared/offered-steps.js";
 import { waitsForAnswers } from "../shared/view.js";
 import type { Calls } from "../shared/questions.js";
@@ -35,12 +35,11 @@ type FurtherActs = {
 };
 
 export class FurtherSearch {
+  readonly measure = new Measure();
   #timer = 0;
   #search: Search | null = null;
 
-  constructor(
-    private readonly finders: Calls[], private readonly measure: Measure, private readonly acts: FurtherActs,
-  ) {
+  constructor(private readonly finders: Calls[], private readonly acts: FurtherActs) {
     document.addEventListener("visibilitychange", () => (document.hidden ? this.#pause() : this.#wait()));
   }
 

@@ -8,10 +8,10 @@ import {
   announce, button, counted, element, part, spoken, tell, type Attributes, type PageElement,
 } from "../shared/element.js";
 import { MOST_COMPARED, compare } from "./comparison.js";
-import { LONGEST_NOTE, MOST_CANDIDATES } from "../state/limits.js";
+import { LONGEST_NOTE, MOST_CANDIDATES, MOST_MOVES } from "../state/limits.js";
 import { WayTo } from "../state/history.js";
 import {
-  SIDES, axisName, bracketed, isReduced, newlyReached, reductionsAfter, sidesOf, stateOf, stepNamed, type Part,
+  SIDES, axisName, bracketed, isReduced, reductionsAfter, saidToBeReached, sidesOf, stateOf, stepNamed, type Part,
 } from "../shared/offered-steps.js";
 import { withCases } from "../shared/passage.js";
 import { tellAt, withoutMoving } from "../shared/view.js";
@@ -29,6 +29,9 @@ function stageOf({ reached, next }: KeptWalk) {
 }
 
 const totalOf = ({ totals, next }: KeptWalk) => next?.total ?? lastOf(totals);
+
+/** What candidates are put in order by: how far they have come, and then all moves, which are fewer than that many. */
+const rankOfKept = (walk: KeptWalk | null) => (walk === null ? 0 : totalOf(walk) - 2 * MOST_MOVES * stageOf(walk));
 
 /** The reduction that a candidate was kept with, `DR F/B 6c4e: 4 normal, 7 inverse, 9 with the line`, and the first. */
 function wordsOfNext({ next }: KeptWalk): string[] {
@@ -53,7 +56,7 @@ function stepOf(parts: Part[], walk: KeptWalk | null) {
   const total = parts.length > 1 ? `${count} in all` : counted(count, "move");
   const steps = parts.map((part, at) => element("span", { class: "step" },
     element("span", { class: "moves" }, ...withCases(bracketed([part]), walk?.passed[at] ?? [])),
-    ...(walk === null ? [] : newlyReached(walk, at)).map((state) => element("span", { class: "chip" }, state))));
+    ...(walk === null ? [] : saidToBeReached(walk, at)).map((state) => element("span", { class: "chip" }, state))));
   const cases = walk === null ? [] : casesAfter(walk);
   return element("span", { class: "step" }, ...steps,
     element("span", { class: "total" }, walk === null ? "" : total),
@@ -67,7 +70,7 @@ type KeptActs = { goOn: (parts: Part[], list: List | null) => void; change: (kep
 export class KeptCandidates {
   #candidates: Candidate[] = [];
   #walks: KeptWalk[] = [];
-  /** What was kept before some were taken away, as long as nothing else changed. */
+  /** What was kept before one was taken away, as long as nothing else changed. */
   #before: Candidate[] | null = null;
   #notes: PageElement[] = [];
   /** the scramble as it is copied, and by its face turns */
@@ -80,17 +83,10 @@ export class KeptCandidates {
 
   constructor(private readonly calls: Calls, private readonly acts: KeptActs) {
     part("copy-kept").addEventListener("click", (event) => copy(this.#text(), event.currentTarget));
-    part("kept-clear").addEventListener("click", () => {
-      this.leave([]);
-      part("kept-back").focus({ preventScroll: true });
-    });
     part("kept-back").addEventListener("click", () => {
-      const before = present(this.#before);
-      const { length } = before;
-      acts.change(before);
-      announce(`${counted(length, "line")} ${length === 1 ? "is" : "are"} kept again.`);
+      acts.change(present(this.#before));
+      announce("The line is kept again.");
     });
-    part("kept-sort").addEventListener("change", () => this.#draw());
     part("kept-compare").addEventListener("click", () => this.#compare());
     part("comparison-close").addEventListener("click", () => part("comparison").close());
     // a sheet has the set-ups
@@ -130,25 +126,22 @@ export class KeptCandidates {
     announce(`${spoken(bracketed(parts))}: ${isKept ? "kept" : "no longer kept"}.`);
   }
 
-  /** Leaves fewer candidates, which can be undone until something else changes. */
+  /** Leaves one candidate less, which can be undone until something else changes. */
   leave(left: Candidate[]) {
     const before = this.#candidates;
     this.acts.change(left);
     this.#offerBack(before);
-    announce(`${part("kept-left-words").textContent} A button below the list undoes that.`);
+    announce("A line was removed. A button below the list undoes that.");
   }
 
   #offerBack(before: Candidate[] | null) {
     const isFocused = document.activeElement === part("kept-back");
     this.#before = before;
-    const count = before === null ? 0 : before.length - this.#candidates.length;
-    part("kept-left").hidden = count === 0;
-    const words = `${counted(count, "line")} ${count === 1 ? "was" : "were"} removed.`;
-    part("kept-left-words").textContent = count === 0 ? "" : words;
+    part("kept-left").hidden = before === null;
     // not by :has, which would lay a style on all of the page whenever a part of it changes
-    part("kept").parentElement?.classList.toggle("none-kept", this.#candidates.length === 0 && count === 0);
+    part("kept").parentElement?.classList.toggle("none-kept", this.#candidates.length === 0 && before === null);
     // what is hidden can't keep the focus
-    if (isFocused && count === 0) part("kept-heading").focus({ preventScroll: true });
+    if (isFocused && before === null) part("kept-heading").focus({ preventScroll: true });
   }
 
   /** Shows what the engine says of the candidates after a scramble, unless it is shown already. */
@@ -172,19 +165,14 @@ export class KeptCandidates {
   }
 
   #sorted(): Shown[] {
-    const all = this.#candidates.map((candidate, at) => ({ candidate, walk: this.#walks[at] ?? null, at }));
-    const walked = all.flatMap((each) => (each.walk === null ? [] : [{ ...each, walk: each.walk }]));
-    if (walked.length < all.length || part("kept-sort").value === "kept") return all;
-    return walked
-      .sort((one, other) => stageOf(other.walk) - stageOf(one.walk) || totalOf(one.walk) - totalOf(other.walk));
+    return this.#candidates.map((candidate, at) => ({ candidate, walk: this.#walks[at] ?? null, at }))
+      .sort((one, other) => rankOfKept(one.walk) - rankOfKept(other.walk));
   }
 
   #text() {
     if (this.#walks.length !== this.#candidates.length) return "";
-    const notesOf = (walk: KeptWalk, { note }: Candidate) =>
-      [...wordsOfNext(walk).slice(0, 1), note].filter((each) => each !== "");
-    return fmcOfAll(this.#scramble, this.#sorted().flatMap(({ candidate, walk }) =>
-      (walk === null ? [] : [{ walk, notes: notesOf(walk, candidate) }])));
+    return fmcOfAll(this.#scramble, this.#sorted().flatMap(({ candidate: { note }, walk }) =>
+      (walk === null ? [] : [{ walk, notes: [...wordsOfNext(walk).slice(0, 1), note].filter(Boolean) }])));
   }
 
   #draw() {

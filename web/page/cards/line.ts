@@ -4,8 +4,8 @@ import { thrownError, lastOf } from "../shared/certain.js";
 import { copy, fmcOf, setUps } from "../shared/copying.js";
 import { announce, button, counted, element, inner, part, spoken, tell, type PageElement } from "../shared/element.js";
 import {
-  bracketed, isReduced, lastSideOf, movesOn, newlyReached, onOtherSides, otherSide, statesOf, turnsOfStep, type Part,
-  type Side,
+  bracketed, isReduced, lastSideOf, movesOn, newlyReached, onOtherSides, otherSide, saidToBeReached, sidesOf, statesOf,
+  type Part, type Side,
 } from "../shared/offered-steps.js";
 import { withCases } from "../shared/passage.js";
 import { showFault, wordsOfLeftOut } from "../shared/words.js";
@@ -18,13 +18,6 @@ const UNKNOWN = "…";
 const NO_MOVES = "No moves yet";
 const OF_MOVES = ["line-list", "whole", "set-ups", "undo", "bar-total", "bar-undo", "keep-line"];
 
-function withoutLastMove(parts: Part[]): Part[] {
-  const last = lastOf(parts);
-  const side = lastSideOf(last);
-  const left: Part = { ...last, [side]: last[side].split(" ").slice(0, -1).join(" ") };
-  return [...parts.slice(0, -1), ...(turnsOfStep(left).length === 0 ? [] : [left])];
-}
-
 /** Words in a row: `one`, `one and another`, `one, another and a third`. */
 const listed = (words: string[]) => [words.slice(0, -1).join(", "), ...words.slice(-1)].filter(Boolean).join(" and ");
 
@@ -36,6 +29,16 @@ function endOf({ parts, facts, reached, totals }: Walk) {
   const states = statesOf(lastOf(reached)).filter((state) => state.startsWith("DR"));
   const are = states.length === 1 ? "is" : "are";
   return `${listed(states)} ${are} reached: ${total}. nissy has no step after a DR: go on by hand.`;
+}
+
+/** What is said of a step that newly reaches nothing: what it gives up, and what it would reach on the other side. */
+function missedBy({ reached, otherwise }: Walk, index: number) {
+  // of what follows a DR nissy knows no step
+  if (isReduced(reached[index + 1])) return "";
+  const [before, after] = [reached[index], reached[index + 1]].map(statesOf);
+  const givenUp = before.filter((state) => !after.includes(state)).map((state) => `gives up ${state}`);
+  const there = otherwise[index].map((state) => `${state} on the other side`);
+  return [...givenUp, ...there].join(", ") || "reaches no step";
 }
 
 /** What is known of the steps that two lines begin with in common. */
@@ -72,7 +75,7 @@ export class LineSoFar {
   /** the same of steps that are about to be shown, one of which was edited or removed */
   #wanted: string[][] | null = null;
   /** the elements that say of each step what it reaches and how long it is, also if a field stands in their place */
-  #words: Record<"moves" | "reaches" | "lost" | "otherwise" | "count", PageElement>[] = [];
+  #words: Record<"moves" | "reaches" | "lost" | "count" | "otherwise" | "doubt", PageElement>[] = [];
   #side: Side = "normal";
 
   constructor(private readonly calls: Calls, private readonly reader: Reader, private readonly acts: LineActs) {
@@ -83,10 +86,9 @@ export class LineSoFar {
     takeLines(part("own"), reader);
     part("switch").addEventListener("click", () => this.turn(otherSide(this.#side)));
     for (const name of ["undo-step", "bar-undo"]) part(name).addEventListener("click", () => this.undoStep());
-    part("undo-move").addEventListener("click", () => this.#undo(withoutLastMove(this.#parts)));
-    part("clear").addEventListener("click", () => this.#undo([]));
+    part("clear").addEventListener("click", () => this.#undo([], "normal"));
     part("keep-line").addEventListener("click", () => acts.star());
-    for (const name of ["bracketed", "joined", "fmc"]) {
+    for (const name of ["joined", "fmc"]) {
       part(`copy-${name}`).addEventListener("click", (event) => copy(part(name).textContent, event.currentTarget));
     }
   }
@@ -120,8 +122,9 @@ export class LineSoFar {
       moves: element("span", { class: "moves" }, bracketed([each])),
       reaches: element("span", { class: "reaches", hidden: true }),
       lost: element("span", { class: "lost", "aria-live": "polite", hidden: true }),
+      count: element("span", { class: "note count" }),
       otherwise: element("span", { class: "note otherwise", "aria-live": "polite", hidden: true }),
-      count: element("span", { class: "count" }),
+      doubt: element("span", { class: "lost doubt", "aria-live": "polite", hidden: true }),
     }));
     for (const name of ["finished", "own-read"]) tell(part(name), "");
     part("line-list").replaceChildren(...parts.map((each, index) => this.#item(each, index)));
@@ -129,7 +132,7 @@ export class LineSoFar {
     // where the engine can't read them, no line of other parts stays to be copied
     const line = bracketed(parts);
     if (line !== part("bracketed").textContent) {
-      this.#showWhole({ line, joined: "", total: UNKNOWN });
+      this.#showWhole(line, "", UNKNOWN);
       part("set-ups").replaceChildren();
     }
     for (const name of OF_MOVES) part(name).hidden = parts.length === 0;
@@ -137,22 +140,26 @@ export class LineSoFar {
 
   /** Shows what each step reaches, how long it is, and the whole. @param whole without brackets */
   describe(walk: Walk, whole: string, scramble: string) {
-    this.#showWhole({
-      line: bracketed(walk.parts), joined: whole, total: counted(lastOf(walk.totals), "move"), note: noteOfJoined(walk),
-      fmc: fmcOf(scramble, walk),
-    });
+    const told = { note: noteOfJoined(walk), fmc: fmcOf(scramble, walk) };
+    this.#showWhole(bracketed(walk.parts), whole, counted(lastOf(walk.totals), "move"), told);
     this.#words.forEach(({ moves, reaches, lost, otherwise, count }, index) => {
       moves.replaceChildren(...withCases(bracketed([walk.parts[index]]), walk.passed[index]));
       const inAll = index === 0 ? "" : `, ${walk.totals[index + 1]} in all`;
-      count.textContent = `${counted(walk.turns[index], "move")}${inAll}`;
+      const side = sidesOf(walk.parts[index]);
+      count.textContent = `${counted(walk.turns[index], side === "both" ? "move" : `${side} move`)}${inAll}`;
       const [fresh, missed] = [newlyReached(walk, index), this.#lost(walk, index)];
-      tell(reaches, fresh.join(", "));
-      tell(otherwise, walk.otherwise[index].map((state) => `${state} on the other side`).join(", "));
+      tell(reaches, saidToBeReached(walk, index).join(", "));
+      tell(otherwise, fresh.length > 0 ? "" : missedBy(walk, index));
       tell(lost, missed.length === 0 ? "" : `no longer ${listed(missed)}`);
       if (missed.length === 0 || fresh.length > 0) this.#reached[index] = fresh;
     });
     part("set-ups").replaceChildren(...setUps(walk.now.lines));
     tell(part("finished"), endOf(walk));
+  }
+
+  /** Says of a step that was read of a text what makes one doubt it. */
+  tellDoubt(index: number, words: string) {
+    if (index >= 0) tell(this.#words[index].doubt, words);
   }
 
   /** What a step reached before it or an earlier one was changed, and what doesn't hold then, nor in the end. */
@@ -161,10 +168,7 @@ export class LineSoFar {
     return (this.#reached[index] ?? []).filter((state) => !holds.includes(state));
   }
 
-  #showWhole(
-    { line, joined, total, note = "", fmc = "" }:
-      { line: string; joined: string; total: string; note?: string; fmc?: string },
-  ) {
+  #showWhole(line: string, joined: string, total: string, { note, fmc } = { note: "", fmc: "" }) {
     const texts = { bracketed: line, joined, total, fmc, "bar-line": line || NO_MOVES, "bar-total": total };
     for (const [name, text] of Object.entries(texts)) part(name).textContent = text;
     tell(part("joined-note"), note);
@@ -176,9 +180,8 @@ export class LineSoFar {
     const text = bracketed([each]);
     const act = (word: string, click: () => void) =>
       button(word, { class: "quiet", "aria-label": `${word} ${spoken(text)}`, click });
-    const { moves, reaches, lost, otherwise, count } = this.#words[index];
     return element("li", {},
-      element("span", { class: "step" }, moves, reaches, lost, element("span", { class: "note" }, count), otherwise),
+      element("span", { class: "step" }, ...Object.values(this.#words[index])),
       element("span", { class: "acts" },
         act("Edit", () => this.#edit(index)), act("Remove", () => this.#replace(index, [], 1)),
         act("Other side", () => this.#replace(index, [onOtherSides(each)], 2))));
@@ -224,9 +227,9 @@ export class LineSoFar {
     if (isWithin) row?.querySelectorAll("button")[focused].focus({ preventScroll: true });
   }
 
-  #undo(parts: Part[]) {
-    const isOneLess = parts.length === this.#parts.length - 1;
-    const isBack = this.acts.change(isOneLess ? { parts, side: lastSideOf(lastOf(this.#parts)) } : { parts });
+  /** @param side on which one goes on, else where the last step was if that alone is taken back */
+  #undo(parts: Part[], side = parts.length === this.#parts.length - 1 ? lastSideOf(lastOf(this.#parts)) : null) {
+    const isBack = this.acts.change(side === null ? { parts } : { parts, side });
     announce(parts.length === 0 ? "The line is empty." : `The line is ${spoken(bracketed(parts))}.`);
     // a field that is typed in would bring the keyboard of a phone up, beside the row
     if (parts.length === 0) part(isBack ? "line-heading" : "own").focus({ preventScroll: true });

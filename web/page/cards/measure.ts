@@ -1,11 +1,7 @@
-// A measure for what nobody asked for: up to ten seconds of one processor for a scramble, and nothing on a phone,
-// unless something else is chosen, which the browser keeps.
-import { counted, part } from "../shared/element.js";
+// A measure for what nobody asked for: up to ten seconds of one processor for a scramble, and nothing on a phone.
+import { counted } from "../shared/element.js";
 import type { Size } from "../answers/orientations.js";
-import { store, stored } from "../state/storage.js";
 
-const CHOSEN = "nissy-further";
-const CHOICES = ["some", "all", "none"];
 const MOST_SECONDS = 10;
 const MINUTE = 60;
 
@@ -37,16 +33,6 @@ export class Measure {
   #taken = 1;
   /** For how many seconds of one processor the scramble was looked at. */
   #spent = 0;
-  #field = part("best-further");
-
-  constructor(changed: () => void) {
-    const kept = stored(CHOSEN);
-    this.#field.value = CHOICES.includes(kept) ? kept : isSmall() ? "none" : "some";
-    this.#field.addEventListener("change", () => {
-      store(CHOSEN, this.#field.value);
-      changed();
-    });
-  }
 
   begin() {
     this.#spent = 0;
@@ -60,8 +46,7 @@ export class Measure {
 
   /** Whether orientations may be looked at without being asked for. */
   allows(sizes: Size[]) {
-    const { value } = this.#field;
-    return value === "all" || (value === "some" && this.#spent + this.#secondsOf(sizes) <= MOST_SECONDS);
+    return !isSmall() && this.#spent + this.#secondsOf(sizes) <= MOST_SECONDS;
   }
 
   words(sizes: Size[]) {

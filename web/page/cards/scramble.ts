@@ -7,7 +7,7 @@ import { LONGEST_SCRAMBLE } from "../state/limits.js";
 import { areBeside, withoutMoving } from "../shared/view.js";
 import { showDoubt, showFault, unanswered, wordsOfLeftOut } from "../shared/words.js";
 import type { Attempt, AttemptDoubt } from "../../module/text/attempts.js";
-import type { Keeping } from "./desk-strip.js";
+import type { Keeping } from "./scrambles-on-desk.js";
 import type { Calls } from "../shared/questions.js";
 import type { ReadScramble, Written } from "../answers/read-lines.js";
 import type { Reader } from "../shared/reader.js";
@@ -72,9 +72,6 @@ export class ScrambleField {
       if (isAll && inputType.startsWith("insert") && inputType !== "insertFromPaste") this.#isEmptied = true;
     });
     part("random").addEventListener("click", () => this.#draw());
-    for (const example of document.querySelectorAll("[data-example]")) {
-      example.addEventListener("click", () => this.#put(example.dataset.example ?? ""));
-    }
     part("scramble-edit").addEventListener("click", () => this.focus());
     // not as soon as the focus goes: what is pressed would move away under the finger
     addEventListener("click", ({ target }) => this.#leave(target));
@@ -203,8 +200,7 @@ export class ScrambleField {
   }
 
   /** Whether a scramble is another one than the last: it was pasted in its place, or typed after it was deleted, or it
-   * has steps. The beginning of the same one may be typed again.
-   * @param isPasted in its place */
+   * has steps. The beginning of the same one may be typed again. */
   #isOther(line: string, isPasted: boolean, hasSteps: boolean) {
     const last = spaced({ line: this.#last });
     if (line === "") {
@@ -219,17 +215,13 @@ export class ScrambleField {
     return last !== line && (isReplaced || hasSteps);
   }
 
-  #put(scramble: string) {
-    const isStep = !this.#isDraft;
-    this.show(scramble);
-    this.acts.change(scramble, { isNew: true, isDrawn: true, isDraft: false, fmc: null, isStep, others: [] });
-  }
-
   async #draw() {
     const [seed] = crypto.getRandomValues(new BigUint64Array(1));
     try {
       const scramble = await this.calls.ask("scrambleOf", { seed });
-      this.#put(scramble);
+      const isStep = !this.#isDraft;
+      this.show(scramble);
+      this.acts.change(scramble, { isNew: true, isDrawn: true, isDraft: false, fmc: null, isStep, others: [] });
       announce(`Random scramble: ${scramble}`);
     } catch (fault) {
       if (!(fault instanceof Stopped)) tell(part("alert"), unanswered(fault));

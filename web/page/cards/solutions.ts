@@ -1,5 +1,4 @@
 // The list of a step's solutions: grouped by length and trigger, filtered by turns and by case, cut if it is long.
-import { Stopped } from "../../module/shared/faults.js";
 import { thrownError, present } from "../shared/certain.js";
 import { announce, announceLater, counted, element, part, setBusy, spoken, tell } from "../shared/element.js";
 import { Filters, NOT_MOVES, ofCases, offerCases, offerMoves, withTurns } from "./filters.js";
@@ -68,7 +67,6 @@ export class SolutionList {
     part("slack").addEventListener("change", () => acts.change({ slack: Number(part("slack").value) }));
     part("list-side").addEventListener("change", () => acts.change({ side: part("list-side").value as List["side"] }));
     part("twins").addEventListener("change", () => acts.change({ isAll: part("twins").checked }));
-    part("solutions-stop").addEventListener("click", () => calls.stop());
     part("solutions-close").addEventListener("click", () => acts.change(null));
     part("solutions-more").addEventListener("click", () => this.#more());
     roveWithin(this.#groups);
@@ -98,8 +96,8 @@ export class SolutionList {
       if (isStill()) this.#take(rows);
     } catch (fault) {
       if (!isStill()) return false;
-      const why = fault instanceof Stopped ? "Stopped." : thrownError(fault).message;
-      this.#setWorking(false);
+      const why = thrownError(fault).message;
+      setBusy("solutions", false);
       tell(part("solutions-note"), why);
       announce(why);
     }
@@ -120,11 +118,8 @@ export class SolutionList {
     part("solutions").hidden = list === null;
     // the best reductions are among those of the list
     part("choices").classList.toggle("lists-reductions", list !== null && stepNamed(list.step).needs !== null);
-    this.#setWorking(list !== null);
-    if (list !== null) this.#describe(list);
-  }
-
-  #describe(list: List) {
+    setBusy("solutions", list !== null, LOOKING);
+    if (list === null) return;
     const { step, side, slack, isAll } = list;
     part("solutions-heading").textContent = nameOfList(list);
     part("solutions").dataset.marks = stateOf(stepNamed(step));
@@ -137,7 +132,7 @@ export class SolutionList {
 
   #take(rows: Rows) {
     this.#rows = rows;
-    this.#setWorking(false);
+    setBusy("solutions", false);
     this.#order();
     const all = `${rows.whole ? "" : "more than "}${counted(rows.all, "solution")}`;
     announce(`${nameOfList(present(this.#list))}: ${all}.`);
@@ -163,14 +158,6 @@ export class SolutionList {
       this.#draw();
     }
     return takeNamed(this.#groups, key);
-  }
-
-  #setWorking(isWorking: boolean) {
-    const stop = part("solutions-stop");
-    // what can't be pressed can't keep the focus
-    if (!isWorking && document.activeElement === stop) part("solutions-heading").focus();
-    stop.disabled = !isWorking;
-    setBusy("solutions", isWorking, LOOKING);
   }
 
   /** Shows what the filters leave, from its beginning, and says whether there is a list. */

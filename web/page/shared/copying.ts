@@ -1,14 +1,13 @@
 // Copies: lines as solvers write them, a step a line with what it reaches; and how a text comes to the clipboard.
 import { announce, button, element, part } from "./element.js";
-import { SIDES, bracketed, newlyReached, stateOf, stepNamed, type Part } from "./offered-steps.js";
-import { tellAt } from "./view.js";
+import { SIDES, bracketed, saidToBeReached, stateOf, stepNamed, type Part } from "./offered-steps.js";
 import type { KeptWalk, Walk } from "../answers/examine.js";
 
 /** A step with its comment, such as `D R B2 // DR R/L (3/10)`: its moves, and those up to its end. */
 function stepLine(walk: Walk, index: number) {
   const [own, total] = [walk.turns[index], walk.totals[index + 1]];
   const count = index === 0 ? `(${total})` : `(${own}/${total})`;
-  const said = [newlyReached(walk, index).join(", "), count].filter(Boolean).join(" ");
+  const said = [saidToBeReached(walk, index).join(", "), count].filter(Boolean).join(" ");
   return `${bracketed([walk.parts[index]])} // ${said}`;
 }
 
@@ -39,20 +38,6 @@ function sayOn(button: HTMLElement, word: string) {
   }, MOMENT);
 }
 
-/** Copies by the older way of browsers, which a page that is opened as a file needs in some. */
-function copiedByField(text: string) {
-  const field = document.createElement("textarea");
-  const focused = document.activeElement;
-  field.value = text;
-  field.className = "unseen";
-  document.body.append(field);
-  field.select();
-  const isDone = document.execCommand("copy");
-  field.remove();
-  focused?.focus({ preventScroll: true });
-  return isDone;
-}
-
 /** Shows a text that can't be copied, selected; the focus goes back once that is closed. */
 function showUncopied(text: string) {
   const field = part("uncopied-text");
@@ -60,21 +45,18 @@ function showUncopied(text: string) {
   part("uncopied").showPopover();
   field.focus();
   field.setSelectionRange(0, text.length);
-  announce("The browser doesn't let the page copy. The text is selected: copy it with the keys of your system.");
 }
 
-export async function copy(text: string, button: HTMLElement): Promise<boolean> {
-  if (text === "") return false;
-  let isDone = true;
+export async function copy(text: string, button: HTMLElement) {
+  if (text === "") return;
   try {
     await navigator.clipboard.writeText(text);
+    announce(`Copied: ${text}`);
+    sayOn(button, "Copied");
   } catch {
-    isDone = copiedByField(text);
+    showUncopied(text);
+    sayOn(button, "Not copied");
   }
-  if (isDone) announce(`Copied: ${text}`);
-  else showUncopied(text);
-  sayOn(button, isDone ? "Copied" : "Not copied");
-  return isDone;
 }
 
 /** How the cube in one's hands is set up on each side, from solved: premoves, scramble and moves, each to be copied.
@@ -86,14 +68,3 @@ export const setUps = (lines: Part, of = "") => SIDES.flatMap((side) => [
     click: ({ currentTarget }) => copy(lines[side], currentTarget),
   })),
 ]);
-
-const LINK_OF_FILE = "This page is a file, so the link leads to it on this computer alone. Whoever else has the file "
-  + "can put what stands after the # behind its address.";
-
-/** Copies the address of the page, and says of a file's that it is one. */
-export async function copyLink(button: HTMLElement) {
-  const isCopied = await copy(location.href, button);
-  if (!isCopied || location.protocol !== "file:") return;
-  tellAt(button, `The link is copied. ${LINK_OF_FILE}`);
-  announce(`Copied: ${location.href}. ${LINK_OF_FILE}`);
-}

@@ -2,7 +2,7 @@
 import { present } from "./certain.js";
 
 /** An element of the page, which may be a field, a bar or what folds. */
-export type PageElement = HTMLElement & { showPopover(): void }
+export type PageElement = HTMLElement & { showPopover(): void; hidePopover(): void }
   & Pick<HTMLTextAreaElement, "value" | "disabled" | "maxLength" | "selectionStart" | "selectionEnd">
   & Pick<HTMLTextAreaElement, "setSelectionRange"> & Pick<HTMLInputElement, "checked">
   & Pick<HTMLSelectElement, "selectedIndex"> & Pick<HTMLProgressElement, "max">
@@ -66,9 +66,8 @@ export function setBusy(id: string, isBusy: boolean, text = "") {
 }
 
 /** A number with its word: `1 move`, `1,200 moves`. */
-export function counted(count: number, word: string) {
-  return `${count.toLocaleString("en")} ${word}${count === 1 ? "" : "s"}`;
-}
+export const counted = (count: number, word: string) =>
+  `${count.toLocaleString("en")} ${word}${count === 1 ? "" : "s"}`;
 
 /** Moves as they are said, since an apostrophe isn't read as solvers read it. */
 export const spoken = (moves: string) => moves.replace(/'/g, " prime").replace(/\(/g, "on the inverse side ")

@@ -59,6 +59,10 @@ export function newlyReached({ reached }: { reached: string[][] }, index: number
   return reductions.length > 0 ? reductions : fresh;
 }
 
+/** The same as it is said of a step: of one that solves, that alone. */
+export const saidToBeReached = (walk: { reached: string[][]; facts: { solved: boolean }[] }, index: number) =>
+  (walk.facts[index + 1].solved ? ["solved"] : newlyReached(walk, index));
+
 /** A side as a heading has it. */
 export const nameOfSide = (side: Side) => (side === "normal" ? "Normal" : "Inverse");
 
@@ -71,11 +75,10 @@ export const partOf = ({ normal, inverse }: Part): Part => ({ normal, inverse })
 export const partOn = (side: Side, moves: string): Part => ({ normal: "", inverse: "", [side]: moves });
 
 export const movesOn = (parts: readonly Part[], side: Side) => joined(...parts.map((each) => each[side]));
-export const turnsOfStep = (part: Part): string[] => SIDES.flatMap((side) => part[side].split(" ")).filter(Boolean);
 
 /** The moves of some steps, each as a step: of each those on the normal side first. */
 export const singleMoves = (parts: readonly Part[]): Part[] => parts.flatMap((part) =>
-  SIDES.flatMap((side) => turnsOfStep(partOn(side, part[side])).map((turn) => partOn(side, turn))));
+  SIDES.flatMap((side) => part[side].split(" ").filter(Boolean).map((turn) => partOn(side, turn))));
 
 /** On which sides a step has moves; the normal one if it has none. */
 export function sidesOf({ normal, inverse }: Part): Side | "both" {

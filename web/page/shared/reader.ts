@@ -2,13 +2,13 @@
 // is done with it: by an instance of the engine's module that has nothing else to do.
 import { attemptOf, attemptsIn, type Attempt } from "../../module/text/attempts.js";
 import { Instance } from "../../module/engine/instance.js";
-import { TextInMemory } from "../../module/text/text-calls.js";
+import { TextCalls } from "../../module/text/text-calls.js";
 import { WrittenText, type PlainLine } from "../../module/text/written.js";
 import type { SentModule } from "../../module/workers/worker-queue.js";
 
 const asItStands = (text: string): PlainLine => ({ line: text, places: Array.from(text, (_, at) => at), leftOut: [] });
 
-const readBy = (instance: Instance, text: string) => new TextInMemory(instance, new WrittenText(text));
+const readBy = (instance: Instance, text: string) => new TextCalls(instance, new WrittenText(text));
 
 export class Reader {
   /** @param instance null if the page has no engine: then all stays as it stands */

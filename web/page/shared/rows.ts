@@ -25,9 +25,7 @@ type AboutRow = { key: string; twins?: string[]; cases?: string[]; passed?: stri
 
 /** The button that takes the moves of a row. @param text the moves as they are shown */
 export function takeButton(
-  text: string,
-  { key, twins = [], cases = [], passed = [], isSeen }: AboutRow,
-  click: () => void,
+  text: string, { key, twins = [], cases = [], passed = [], isSeen }: AboutRow, click: () => void,
 ) {
   const seen = isSeen ? ["seen"] : [];
   const told = [...cases, ...saidOfCases(passed)];

@@ -60,8 +60,7 @@ export function setUsable(usable: boolean) {
   for (const name of ["line", "results", "kept", "cube"]) part(name).inert = !usable;
 }
 
-/** Scrolls to what follows a step; on a narrow page to the results, after the last step to the line, below or
- * beside. */
+/** Scrolls to what follows a step: on a narrow page to the results, after the last step to the line. */
 function scrollToNext(isFinished: boolean) {
   if (!areBeside()) return part(isFinished ? "line" : "results").scrollIntoView({ block: "start" });
   scrollTo({ top: 0, behavior: "instant" });
@@ -80,19 +79,13 @@ export function showStart(isFinished: boolean, table: { focus: () => void }) {
 const KEY = "nissy-theme";
 const THEMES = ["light", "dark"];
 
-/** @param theme "" for the system's */
-function use(theme: string) {
-  if (THEMES.includes(theme)) document.documentElement.dataset.theme = theme;
-  else delete document.documentElement.dataset.theme;
-}
-
 export function offerThemes() {
-  const field = part("theme");
-  const theme = THEMES.includes(stored(KEY)) ? stored(KEY) : "";
-  field.value = theme;
-  use(theme);
+  const [field, kept] = [part("theme"), stored(KEY)];
+  const use = () => Object.assign(document.documentElement.dataset, { theme: field.value });
+  if (THEMES.includes(kept)) field.value = kept;
+  use();
   field.addEventListener("change", () => {
-    use(field.value);
+    use();
     store(KEY, field.value);
   });
 }

@@ -73,17 +73,16 @@ function sentenceOfMove(line: string, place: number) {
   return `“${odd.word}” is no move: write ${odd.letters}, ${odd.letters}2 or ${odd.letters}'.`;
 }
 
+const OF_BRACKETS = new Map([
+  ["bracket inside a bracket", "A bracket stands inside a bracket."],
+  ["bracket closed that was not opened", "A bracket is closed that was not opened."],
+  ["bracket not closed", "A bracket isn't closed."],
+]);
+
 /** The engine's words as a solver reads them. @param line what the engine read */
-function sentenceOf(fault: FaultParts, line: string) {
-  const place = (fault.character ?? 1) - 1;
-  const sentences: Record<string, () => string> = {
-    "not a move": () => sentenceOfMove(line, place),
-    "bracket inside a bracket": () => "A bracket stands inside a bracket.",
-    "bracket closed that was not opened": () => "A bracket is closed that was not opened.",
-    "bracket not closed": () => "A bracket isn't closed.",
-  };
-  const sentence = Object.hasOwn(sentences, fault.text) ? sentences[fault.text] : null;
-  return sentence === null ? `${fault.text[0].toUpperCase()}${fault.text.slice(1)}.` : sentence();
+function sentenceOf({ text, character }: FaultParts, line: string) {
+  if (text === "not a move") return sentenceOfMove(line, (character ?? 1) - 1);
+  return OF_BRACKETS.get(text) ?? `${text[0].toUpperCase()}${text.slice(1)}.`;
 }
 
 /** What is said of a text with a line that can't be read, or "". */
@@ -110,7 +109,7 @@ function marked(text: string, place: number) {
 const WORDS_OF_DOUBTS: Record<string, (word: string) => string> = {
   "another scramble": () => "a whole scramble begins here, and more follows it",
   "several solutions": () => "of several solutions none is said to be the one that counts",
-  side: (word) => `“${word}” names a side, and moves on the inverse belong in brackets`,
+  side: (word) => `“${word}” names a side, and its moves may belong on the other one`,
   letters: (word) => `“${word}” is read as moves`,
   "small letters": (word) => `“${word}” is read as a wide turn`,
   comment: () => "moves stand in a comment, and are left out",
@@ -120,19 +119,18 @@ const WORDS_OF_DOUBTS: Record<string, (word: string) => string> = {
   "a part": () => "the steps don't solve the scramble, but some of them do",
 };
 
+export const wordsOfDoubt = ({ reason, place: { at } }: AttemptDoubt, text: string) =>
+  `In doubt: ${WORDS_OF_DOUBTS[reason](wordAt(text, at))}.`;
+
 /** Shows under a field what makes one doubt how its text was read, or takes the last one away. */
 export function showDoubt(where: HTMLElement, doubt: AttemptDoubt | null, text: string) {
   where.hidden = doubt === null;
   where.replaceChildren();
-  if (doubt === null) return;
-  const { reason, place: { at } } = doubt;
-  where.append(element("p", {}, `In doubt: ${WORDS_OF_DOUBTS[reason](wordAt(text, at))}.`), marked(oneLine(text), at));
+  if (doubt !== null) where.append(element("p", {}, wordsOfDoubt(doubt, text)), marked(oneLine(text), doubt.place.at));
 }
 
 /** Shows a fault under its field, or takes the last one away. */
-export function showFault(
-  where: HTMLElement, field: HTMLElement, plain: PlainLine, fault: Error | null, text: string,
-) {
+export function showFault(where: HTMLElement, field: HTMLElement, plain: PlainLine, fault: Error | null, text: string) {
   where.hidden = fault === null;
   where.replaceChildren();
   field.setAttribute("aria-invalid", String(fault !== null));

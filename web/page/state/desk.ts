@@ -45,6 +45,9 @@ export const stateOfSheet = ({ address }: Sheet) => readAddress(address).state;
 
 const plainly = (scramble: string) => scramble.trim().replace(/ +/g, " ");
 
+const sheetOf = (sheets: readonly Sheet[], scramble: string) =>
+  sheets.find((each) => plainly(stateOfSheet(each).scramble) === plainly(scramble)) ?? null;
+
 export class Desk {
   /** what the browser keeps, and what it says */
   #text = stored(DESK);
@@ -78,14 +81,10 @@ export class Desk {
     this.isKept = store(DESK, this.#text);
   }
 
-  #withScramble(scramble: string) {
-    return this.#sheets.find((each) => plainly(stateOfSheet(each).scramble) === plainly(scramble)) ?? null;
-  }
-
   /** Turns to the sheet of a scramble, if it has one. @param id of the sheet that is meant, or 0 */
   turnTo(scramble: string, id = 0): Sheet | null {
     this.readAgain();
-    const sheet = this.#sheets.find((each) => each.id === id) ?? this.#withScramble(scramble);
+    const sheet = this.#sheets.find((each) => each.id === id) ?? sheetOf(this.#sheets, scramble);
     const before = this.shown;
     this.#at = sheet?.id ?? 0;
     const isBare = before?.isDrawn && before !== sheet && !hasLines(stateOfSheet(before));
@@ -116,7 +115,7 @@ export class Desk {
   add(added: NewSheet[]) {
     let left = 0;
     this.#change((sheets) => added.reduce((all, { state, written }) => {
-      const own = all.find((each) => plainly(stateOfSheet(each).scramble) === plainly(state.scramble));
+      const own = sheetOf(all, state.scramble);
       const joined = own ? joinedStates(stateOfSheet(own), state) : state;
       const address = addressOf(joined);
       if (own) return all.map((each) => (each === own && fitsAddress(joined) ? { ...own, address } : each));
@@ -127,13 +126,12 @@ export class Desk {
     return left;
   }
 
-  /** Takes the sheet that is shown away. @returns what brings it back to its place */
+  /** Takes the sheet that is shown away. @returns its place */
   remove() {
-    const { shown } = this;
-    const at = this.#sheets.findIndex((each) => each === shown);
-    this.#change((sheets) => sheets.filter(({ id }) => id !== shown?.id));
+    const at = this.#sheets.findIndex(({ id }) => id === this.#at);
+    this.#change((sheets) => sheets.filter(({ id }) => id !== this.#at));
     this.#at = 0;
-    return () => shown && this.#change((sheets) => sheets.toSpliced(at, 0, shown));
+    return at;
   }
 }
 

@@ -1,10 +1,11 @@
-// The desk as the page has it: a strip with a link to each scramble, what takes one away and brings it back; and how
-// what is shown comes to the desk, and from there to the page.
+// The desk as the page has it: a strip with a link to each scramble, and what takes one away; and how what is shown
+// comes to the desk, and from there to the page.
 import { copy } from "../shared/copying.js";
 import { announce, counted, element, part, tell } from "../shared/element.js";
 import { addressOf, emptyState, type State } from "../state/address.js";
 import { Desk, stateOfBoth, stateOfSheet, textOfDesk, type NewSheet, type Sheet } from "../state/desk.js";
 import { keepPlace, keepSheet, placeNow, sheetOfEntry, writeState, type Place } from "../state/history.js";
+import { tellAt } from "../shared/view.js";
 
 const NOT_KEPT = "This browser keeps nothing of what is done here: take it along by Copy all.";
 
@@ -27,7 +28,6 @@ function chipOf(sheet: Sheet, at: number, isShown: boolean) {
 
 export class DeskStrip {
   #desk = new Desk();
-  #bringBack = () => {};
   #chips = part("desk-chips");
 
   constructor(begin: () => void) {
@@ -38,7 +38,6 @@ export class DeskStrip {
     part("copy-desk").addEventListener("click", ({ currentTarget }) =>
       copy(textOfDesk(this.#desk.sheets), currentTarget));
     part("desk-remove").addEventListener("click", () => this.#remove());
-    part("desk-back").addEventListener("click", () => this.#restore());
     // another page changed it
     addEventListener("storage", () => {
       this.#desk.readAgain();
@@ -113,30 +112,16 @@ export class DeskStrip {
     this.#chips.replaceChildren(...sheets.map((each, at) => chipOf(each, at, each === shown)));
     const chip = this.#chips.children[focused];
     if (chip instanceof HTMLElement) chip.focus({ preventScroll: true });
-    part("desk").hidden = sheets.length < (shown === null ? 1 : 2) && part("desk-removed").hidden && isKept;
+    part("desk").hidden = sheets.length < (shown === null ? 1 : 2) && isKept;
     part("desk-remove").hidden = shown === null;
     tell(part("desk-note"), isKept || sheets.length === 0 ? "" : NOT_KEPT);
   }
 
+  /** Takes the scramble that is shown away with all that was done; an entry of the history has its address. */
   #remove() {
-    const at = this.#desk.sheets.findIndex((each) => each === this.#desk.shown);
-    this.#bringBack = this.#desk.remove();
+    const at = this.#desk.remove();
     const { sheets } = this.#desk;
-    this.#tellRemoved(at + 1);
+    tellAt(part("desk-remove"), `Scramble ${at + 1} was removed: the browser's Back brings it back.`);
     location.hash = (sheets[at] ?? sheets[at - 1])?.address ?? "#";
-  }
-
-  #restore() {
-    const before = new Set(this.#desk.sheets.map(({ id }) => id));
-    this.#bringBack();
-    this.#tellRemoved(0);
-    location.hash = this.#desk.sheets.find(({ id }) => !before.has(id))?.address ?? "#";
-  }
-
-  /** @param number of the scramble that was taken away, or 0 */
-  #tellRemoved(number: number) {
-    part("desk-removed").hidden = number === 0;
-    part("desk-removed-words").textContent = number === 0 ? "" : `Scramble ${number} was removed.`;
-    this.show();
   }
 }
