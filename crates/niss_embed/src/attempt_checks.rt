@@ -6,8 +6,9 @@ ghost use Rattle.niss_embed.specs.Attempts.{Are, IsOfAttempt, IsOfScramble, IsOf
 use crate::answer::Status;
 use crate::attempts::{Judged, NONE, check_own};
 use crate::fact_answers::CheckAnswer;
-use crate::known_parts::{Known, Solution, lines_between};
+use crate::known_parts::{Known, Solution};
 use crate::runs::{Placed, Run, next_run};
+use crate::stretch::stretch;
 use niss_text::{KnownPart, TextLine};
 
 /// The doubt that it can't be seen which scramble a part is a solution of.
@@ -80,8 +81,8 @@ fn judge_part(
     let Some(scramble) = known.scramble(part.scramble) else {
         return Some(unseen(part));
     };
-    let own = lines_between(lines, part.first_line, part.solution_end);
-    let others = lines_between(lines, 0, part.end_line);
+    let own = stretch(lines, part.first_line, part.solution_end);
+    let others = stretch(lines, 0, part.end_line);
     let solution = Solution {
         text,
         own,

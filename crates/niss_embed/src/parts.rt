@@ -9,6 +9,7 @@ ghost use Rattle.niss_embed.specs.Parts.{IsHow, IsFirstFrom, IsFound, IsWithin, 
 use crate::answer::Status;
 use crate::line_texts::read_by;
 use crate::step_corners::{Around, AttemptCorners};
+use crate::stretch::stretch;
 use arrayvec::ArrayVec;
 use niss_moves::{LineReader, Niss};
 use niss_shell::{MOST_BYTES, move_count, solves};
@@ -126,19 +127,6 @@ fn push_bound(bounds: &mut ArrayVec<usize, 9>, place: usize)
 {
     if !bounds.is_full() {
         bounds.push(place);
-    }
-}
-
-/// What stands in a text from one place to another, as far as it goes.
-pub fn stretch(text: &[u8], begin: usize, end: usize) -> &[u8]
-    ensures is { result.now ≡ slice_range text.now begin end }
-    ensures fits { length result.now ≤ length text.now }
-{
-    let end = end.min(text.len());
-    if begin < end {
-        &text[begin..end]
-    } else {
-        &text[..0]
     }
 }
 

@@ -6,8 +6,8 @@ use Rattle.niss_embed.proofs.attempt_checks.judge_part.Goals as goal
 pub returns-clause-room : goal.returns-clause-room
 returns-clause-room c = λ one two.
     let part = c.args.part.now in
-    let own : most_bytes c.lines_between-own.result.now ≡ most_bytes (slice_range c.args.lines.now part.first_line part.solution_end) = ap most_bytes c.lines_between-own.ensures in
-    let others : most_bytes c.lines_between-others.result.now ≡ most_bytes (slice_range c.args.lines.now 0 part.end_line) = ap most_bytes c.lines_between-others.ensures in
+    let own : most_bytes c.stretch-own.result.now ≡ most_bytes (slice_range c.args.lines.now part.first_line part.solution_end) = ap most_bytes c.stretch-own.ensures.is in
+    let others : most_bytes c.stretch-others.result.now ≡ most_bytes (slice_range c.args.lines.now 0 part.end_line) = ap most_bytes c.stretch-others.ensures.is in
     let few = most_between c.args.lines.now part.first_line part.solution_end in
     let all = most_between c.args.lines.now 0 part.end_line in
     c.check.ensures.room (omega (arith, own, few, one)) (omega (arith, own, few, two)) (omega (arith, others, all, one)) (omega (arith, others, all, two))
