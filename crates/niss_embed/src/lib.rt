@@ -46,7 +46,7 @@ mod two_lines;
 mod ways_answer;
 
 pub use answer::{Answer, LineAnswer, Status};
-pub use attempt_checks::{AttemptCheck, AttemptsAnswer, check_attempts};
+pub use attempt_checks::{AttemptCheck, Attempts, AttemptsAnswer, check_attempts};
 pub use attempts::Judged;
 pub use best::{best_ways, line_after};
 pub use call::run_bytes;
