@@ -1,10 +1,10 @@
 //! Whether a part of the steps of an attempt solves its scramble.
-ghost use Rattle.std.specs.Prelude.{◌≡◌, ◌<◌, ◌≤◌, ◌+◌, ◌-◌, ◌++◌, ℕ, List, [], ◌∷◌, Ok, length, map, take, slice_index, slice_range, IfSome};
+ghost use Rattle.std.specs.Prelude.{◌≡◌, ◌<◌, ◌≤◌, ◌+◌, ◌-◌, ◌++◌, ℕ, List, [], ◌∷◌, Ok, length, map, take, IfSome};
 ghost use Rattle.niss_moves.specs.Reader.{IsFed, read_line};
 ghost use Rattle.niss_embed.specs.Parts.{bounds_of, is_end, read_byte, how_number, arranged, solves_line, solves_part, solves_whole, part};
 ghost use Rattle.niss_shell.specs.Words.{most_bytes};
 ghost use Rattle.niss_embed.specs.Corners.{AreBounds, IsAttempt, IsAroundPart};
-ghost use Rattle.niss_embed.specs.Parts.{IsHow, IsFirstFrom, IsFound, IsWithin, TellsPart, answer_of, no_part, end_of_steps};
+ghost use Rattle.niss_embed.specs.Parts.{IsHow, IsFirstFrom, IsFound, IsWithin, TellsPart, answer_of, no_part};
 
 use crate::answer::Status;
 use crate::line_texts::read_by;
