@@ -1,8 +1,7 @@
 -- Where moves bring corners: by one move, by moves in a row, by a rotation; and lines of which it is known.
-use Rattle.std.proofs.Common.{◌≡◌, ◌∙◌, ℕ, ◌+◌, ◌*◌, ◌%◌, ◌<◌, ◌==◌, true, List, [], ◌∷◌, ◌++◌, length, map, reverse, get_or, refl, sym, ap, subst, arith}
+use Rattle.std.proofs.Common.{◌≡◌, ◌∙◌, ℕ, ◌+◌, ◌*◌, ◌%◌, ◌<◌, ◌==◌, true, List, [], ◌∷◌, ◌++◌, length, get_or, refl, sym, ap, subst, arith}
 use Rattle.std.specs.Prelude.{slice_index, bit_xor, Option, None, Some, take}
 use Rattle.std.proofs.lemmas.Grind.{take_at_read}
-use Rattle.std.proofs.lemmas.List.{map-append, reverse-append}
 use Rattle.niss_moves.specs.Effects.{effect, moved_by, inverse, inverse_token}
 use Rattle.niss_moves.specs.Places.{Coord, Neg, Zero, Pos, Place, SameMap, is_place, is_corner}
 use Rattle.niss_moves.specs.Facelets.{facelet}
@@ -14,7 +13,7 @@ use Rattle.niss_moves.specs.declared.turn.Face.{Face}
 use Rattle.niss_moves.specs.declared.turn.Face.TheVariants.{U, D}
 use Rattle.niss_moves.specs.declared.turn.Power.{Power}
 use Rattle.niss_moves.specs.declared.turn.Power.TheVariants.{Quarter, Half, Counter}
-use Rattle.niss_moves.proofs.CallerLemmas.{Fact, Yes, Equal, Both, When, Numbers, Places, Faces, Tokens, Holds, holds, and_left, effect-append}
+use Rattle.niss_moves.proofs.CallerLemmas.{Fact, Yes, Equal, Both, When, Numbers, Places, Faces, Tokens, Holds, holds, and_left, effect-append, inverse-append}
 unfoldable use Rattle.niss_moves.proofs.CallerLemmas.{every_face, every_power, every_axis, every_slice, every_token}
 use Rattle.niss_embed.specs.declared.corners.Corners.{Corners}
 use Rattle.niss_embed.specs.Corners.{Brings, side, home, corners_after}
@@ -72,9 +71,6 @@ by_both to next both s t is a b = record { stays = λ q h. stays q h; there = λ
         ap corner_of (effect-append s t q) ∙ b.there (effect s q) (a.stays q h)
         ∙ ap (slice_index next) (sym (below n m (below_eight (effect s q)) (a.there q h)))
         ∙ sym (is (corner_of q) (below_eight q))
-
-pub inverse-append : (s t : List Token) → inverse (s ++ t) ≡ inverse t ++ inverse s
-inverse-append s t = ap reverse (map-append inverse_token s t) ∙ reverse-append (map inverse_token s) (map inverse_token t)
 
 -- One more move after moves, and its inverse before theirs.
 pub by_more : (to both : List ℕ) (next : Corners) (xs : List Token) (i : ℕ) (d : Token) → i < length xs → next ≡ corners_after (get_or xs i d) →

@@ -14,11 +14,11 @@ use Rattle.niss_moves.specs.Reader.{read_line}
 use Rattle.niss_moves.specs.Solving.{IsRotated, is_rotated, solves}
 use Rattle.niss_moves.specs.declared.token.Token.{Token}
 use Rattle.niss_moves.specs.declared.fault.ReadFault.{ReadFault}
+use Rattle.niss_moves.proofs.CallerLemmas.{inverse-append}
 use Rattle.niss_embed.specs.declared.parts.Brackets.TheVariants.{Kept}
 use Rattle.niss_embed.specs.declared.step_corners.StepCorners.{StepCorners}
 use Rattle.niss_embed.specs.Corners.{Brings, Reads, Ascends, has_bracket, steps_line}
 use Rattle.niss_embed.specs.Parts.{read_byte, solves_line}
-use Rattle.niss_embed.proofs.CornerLemmas.{inverse-append}
 
 -- bytes and then others
 pub spells_both : (bytes more : List ℕ) (n b m c : List Token) → Spells bytes n b → Spells more m c → Spells (bytes ++ more) (n ++ m) (b ++ c)

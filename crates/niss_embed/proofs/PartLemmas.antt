@@ -1,9 +1,10 @@
 -- The places where steps end, and the first part that solves.
-use Rattle.std.proofs.Common.{◌≡◌, ℕ, zero, suc, ◌+◌, ◌<◌, ◌≤◌, ◌⊎◌, Bool, true, false, cond, None, Some, List, [], ◌∷◌, ◌++◌, length, take, refl, sym, ap, ◌∙◌, inl, inr, add-zero, arith, length-append}
+use Rattle.std.proofs.Common.{◌≡◌, ℕ, zero, suc, ◌+◌, ◌<◌, ◌≤◌, ◌⊎◌, Bool, true, false, cond, None, Some, List, [], ◌∷◌, ◌++◌, length, take, refl, sym, ap, ◌∙◌, inl, inr, arith, length-append}
 use Rattle.std.specs.List.{filter, range_with_len}
 use Rattle.std.proofs.lemmas.Bool.{cases_lt}
 use Rattle.std.proofs.lemmas.List.{append-nil, take_all, take-append-le, length-take-le}
 use Rattle.std.proofs.lemmas.List.Elements.{filter-append}
+use Rattle.niss_search.proofs.CallerLemmas.{range_push}
 use Rattle.niss_embed.specs.declared.parts.How.{How}
 use Rattle.niss_embed.specs.declared.parts.How.TheVariants.{Alone, LeftOut, InBrackets}
 use Rattle.niss_embed.specs.declared.parts.Part.{Part}
@@ -12,17 +13,10 @@ use Rattle.niss_embed.specs.Corners.{Ascends, AreBounds}
 use Rattle.niss_embed.specs.Parts.{is_end, how_number, part, IsHow, IsPart, IsBefore, IsFirstFrom, IsFound}
 unfoldable use Rattle.niss_embed.specs.Parts.{bounds_of}
 
-range_more : (a n : ℕ) → range_with_len a (n + 1) ≡ range_with_len a n ++ (a + n) ∷ []
-range_more a zero = ap (λ k. k ∷ []) (sym (add-zero a))
-range_more a (suc n) =
-    let one : suc n + 1 ≡ suc (n + 1) = omega arith in
-    let last : (a + 1) + n ≡ a + suc n = omega arith in
-    ap (λ k. range_with_len a k) one ∙ ap (λ v. a ∷ v) (range_more (a + 1) n) ∙ ap (λ k. a ∷ (range_with_len (a + 1) n ++ k ∷ [])) last
-
 range_one : (n : ℕ) → range_with_len 1 (n + 1) ≡ range_with_len 1 n ++ (n + 1) ∷ []
 range_one n =
     let last : 1 + n ≡ n + 1 = omega arith in
-    range_more 1 n ∙ ap (λ k. range_with_len 1 n ++ k ∷ []) last
+    range_push 1 n ∙ ap (λ k. range_with_len 1 n ++ k ∷ []) last
 
 -- the places so far
 abbrev pub bounds_to : List ℕ → ℕ → List ℕ

@@ -30,7 +30,7 @@ use Rattle.niss_embed.specs.declared.runs.Run.{Run}
 abbrev pub no_place : ℕ
 no_place = 18446744073709551615
 
--- The wanted moves of some lines of a text are this line, with these places.
+-- The wanted moves of some lines of a text are this line, with these places; which of their signs are blanks is open.
 pub record AreWritten (text : List ℕ) (of : MovesOf) (lines : List TextLine) (bytes places : List ℕ) : Type 0 where
   pub left : LeftOut
   pub room : ℕ

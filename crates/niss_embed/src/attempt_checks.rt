@@ -6,8 +6,9 @@ ghost use Rattle.niss_embed.specs.Attempts.{Are, IsOfAttempt, IsOfScramble, IsOf
 use crate::answer::Status;
 use crate::attempts::{Judged, NONE, check_own};
 use crate::fact_answers::CheckAnswer;
-use crate::known_parts::{Known, Solution, lines_between};
+use crate::known_parts::{Known, Solution};
 use crate::runs::{Placed, Run, next_run};
+use crate::stretch::stretch;
 use niss_text::{KnownPart, TextLine};
 
 /// The doubt that it can't be seen which scramble a part is a solution of.
@@ -34,6 +35,15 @@ pub struct AttemptsAnswer {
     pub status: u8,
     /// How many attempts are checked.
     pub attempts: usize,
+}
+
+/// A text as solvers write it: its lines, and its parts if it has only solutions of scrambles that are known.
+#[derive(Clone, Copy)]
+pub struct Attempts<'a> {
+    pub text: &'a [u8],
+    pub lines: &'a [TextLine],
+    pub parts: &'a [KnownPart],
+    pub known: Known<'a>,
 }
 
 /// Writes a check after that many others, if there is room.
@@ -65,113 +75,105 @@ fn unseen(part: &KnownPart) -> Placed
     }
 }
 
-/// What is said of a part of a text of solutions.
-fn judge_part(
-    text: &[u8],
-    lines: &[TextLine],
-    known: &Known,
-    part: &KnownPart,
-    out: &mut [u8],
-    places: &mut [u64],
-) -> Option<Placed>
-    ensures is { IfSome result (λ it. IsOfScramble text.now lines.now known.now.scrambles.now known.now.ends.now part.now it) }
-    ensures room { 2 * most_bytes lines.now ≤ length out.old → 2 * most_bytes lines.now ≤ length places.old → IsSome result }
-{
-    let Some(scramble) = known.scramble(part.scramble) else {
-        return Some(unseen(part));
-    };
-    let own = lines_between(lines, part.first_line, part.solution_end);
-    let others = lines_between(lines, 0, part.end_line);
-    let solution = Solution {
-        text,
-        own,
-        lines: Run {
-            first: part.first_line,
-            end: part.solution_end,
-        },
-        others,
-        scramble,
-    };
-    solution.check(part.solution_end.min(others.len()), out, places)
-}
-
-/// The same with its name, and with which scramble that is known it is of.
-fn check_part(
-    text: &[u8],
-    lines: &[TextLine],
-    known: &Known,
-    part: &KnownPart,
-    out: &mut [u8],
-    places: &mut [u64],
-) -> Option<AttemptCheck>
-    ensures is { IfSome result (λ it. IsOfSolutions text.now lines.now known.now.scrambles.now known.now.ends.now part.now it) }
-    ensures room { 2 * most_bytes lines.now ≤ length out.old → 2 * most_bytes lines.now ≤ length places.old → IsSome result }
-{
-    let placed = judge_part(text, lines, known, part, out, places)?;
-    Some(AttemptCheck {
-        scramble: known.number_or_none(part.scramble),
-        name_begin: part.name_begin,
-        name_end: part.name_end,
-        placed,
-    })
-}
-
-/// Checks the parts of a text of solutions.
-fn check_parts(
-    text: &[u8],
-    lines: &[TextLine],
-    parts: &[KnownPart],
-    known: &Known,
-    out: &mut [u8],
-    places: &mut [u64],
-    checks: &mut [AttemptCheck],
-) -> Option<usize>
-    ensures are { IfSome result (λ count. count ≤ length checks.new → Are (IsOfSolutions text.now lines.now known.now.scrambles.now known.now.ends.now) parts.now (take count checks.new)) }
-    ensures all { IfSome result (λ count. count ≡ length parts.now) }
-    ensures room { 2 * most_bytes lines.now ≤ length out.old → 2 * most_bytes lines.now ≤ length places.old → IsSome result }
-    ensures behind { IfSome result (λ count. drop count checks.new ≡ drop count checks.old) }
-{
-    let mut count = 0;
-    let mut rest = parts;
-    while let Some((part, after)) = rest.split_first() {
-        let check = check_part(text, lines, known, part, out, places)?;
-        put_check(checks, count, check);
-        count += 1;
-        rest = after;
-    }
-    Some(count)
-}
-
-/// Checks the attempts among lines that have a scramble.
-#[tactic(auto, using(crate::proofs::AttemptLemmas::most_between))]
-fn check_runs(
-    text: &[u8],
-    lines: &[TextLine],
-    out: &mut [u8],
-    places: &mut [u64],
-    checks: &mut [AttemptCheck],
-) -> Option<usize>
-    ensures are { IfSome result (λ count. count ≤ length checks.new → Are (IsOfAttempt text.now lines.now) (attempts_from 0 lines.now) (take count checks.new)) }
-    ensures few { IfSome result (λ count. count ≤ length lines.now) }
-    ensures all { IfSome result (λ count. count ≡ length (attempts_from 0 lines.now)) }
-    ensures room { 2 * most_bytes lines.now ≤ length out.old → 2 * most_bytes lines.now ≤ length places.old → IsSome result }
-    ensures behind { IfSome result (λ count. drop count checks.new ≡ drop count checks.old) }
-{
-    let mut count = 0;
-    let mut at = 0;
-    while let Some(run) = next_run(lines, at) {
-        let judged = check_own(text, &lines[run.first..run.end], out, places)?;
-        let check = AttemptCheck {
-            scramble: NONE,
-            name_begin: 0,
-            name_end: 0,
-            placed: Placed { lines: run, judged },
+impl Attempts<'_> {
+    /// What is said of a part of a text of solutions.
+    fn judge_part(&self, part: &KnownPart, out: &mut [u8], places: &mut [u64]) -> Option<Placed>
+        ensures is { IfSome result (λ it. IsOfScramble self.now.text.now self.now.lines.now self.now.known.scrambles.now self.now.known.ends.now part.now it) }
+        ensures room { 2 * most_bytes self.now.lines.now ≤ length out.old → 2 * most_bytes self.now.lines.now ≤ length places.old → IsSome result }
+    {
+        let Some(scramble) = self.known.scramble(part.scramble) else {
+            return Some(unseen(part));
         };
-        put_check(checks, count, check);
-        count += 1;
-        at = run.end;
+        let own = stretch(self.lines, part.first_line, part.solution_end);
+        let others = stretch(self.lines, 0, part.end_line);
+        let solution = Solution {
+            text: self.text,
+            own,
+            lines: Run {
+                first: part.first_line,
+                end: part.solution_end,
+            },
+            others,
+            scramble,
+        };
+        solution.check(part.solution_end.min(others.len()), out, places)
     }
-    Some(count)
+
+    /// The same with its name, and with which scramble that is known it is of.
+    fn check_part(
+        &self,
+        part: &KnownPart,
+        out: &mut [u8],
+        places: &mut [u64],
+    ) -> Option<AttemptCheck>
+        ensures is { IfSome result (λ it. IsOfSolutions self.now.text.now self.now.lines.now self.now.known.scrambles.now self.now.known.ends.now part.now it) }
+        ensures room { 2 * most_bytes self.now.lines.now ≤ length out.old → 2 * most_bytes self.now.lines.now ≤ length places.old → IsSome result }
+    {
+        let placed = self.judge_part(part, out, places)?;
+        Some(AttemptCheck {
+            scramble: self.known.number_or_none(part.scramble),
+            name_begin: part.name_begin,
+            name_end: part.name_end,
+            placed,
+        })
+    }
+
+    /// Checks the parts of a text of solutions.
+    fn check_parts(
+        &self,
+        out: &mut [u8],
+        places: &mut [u64],
+        checks: &mut [AttemptCheck],
+    ) -> Option<usize>
+        ensures are { IfSome result (λ count. count ≤ length checks.new →
+            Are (IsOfSolutions self.now.text.now self.now.lines.now self.now.known.scrambles.now self.now.known.ends.now) self.now.parts.now (take count checks.new)) }
+        ensures all { IfSome result (λ count. count ≡ length self.now.parts.now) }
+        ensures room { 2 * most_bytes self.now.lines.now ≤ length out.old → 2 * most_bytes self.now.lines.now ≤ length places.old → IsSome result }
+        ensures behind { IfSome result (λ count. drop count checks.new ≡ drop count checks.old) }
+    {
+        let mut count = 0;
+        let mut rest = self.parts;
+        while let Some((part, after)) = rest.split_first() {
+            let check = self.check_part(part, out, places)?;
+            put_check(checks, count, check);
+            count += 1;
+            rest = after;
+        }
+        Some(count)
+    }
+
+    /// Checks the attempts among lines that have a scramble.
+    #[tactic(auto, using(crate::proofs::AttemptLemmas::most_between))]
+    fn check_runs(
+        &self,
+        out: &mut [u8],
+        places: &mut [u64],
+        checks: &mut [AttemptCheck],
+    ) -> Option<usize>
+        ensures are { IfSome result (λ count. count ≤ length checks.new →
+            Are (IsOfAttempt self.now.text.now self.now.lines.now) (attempts_from 0 self.now.lines.now) (take count checks.new)) }
+        ensures few { IfSome result (λ count. count ≤ length self.now.lines.now) }
+        ensures all { IfSome result (λ count. count ≡ length (attempts_from 0 self.now.lines.now)) }
+        ensures room { 2 * most_bytes self.now.lines.now ≤ length out.old → 2 * most_bytes self.now.lines.now ≤ length places.old → IsSome result }
+        ensures behind { IfSome result (λ count. drop count checks.new ≡ drop count checks.old) }
+    {
+        let mut count = 0;
+        let mut at = 0;
+        while let Some(run) = next_run(self.lines, at) {
+            let lines = &self.lines[run.first..run.end];
+            let judged = check_own(self.text, lines, out, places)?;
+            let check = AttemptCheck {
+                scramble: NONE,
+                name_begin: 0,
+                name_end: 0,
+                placed: Placed { lines: run, judged },
+            };
+            put_check(checks, count, check);
+            count += 1;
+            at = run.end;
+        }
+        Some(count)
+    }
 }
 
 /// Checks all attempts of a text by its lines, or its parts if it has only solutions of scrambles that are known: as many
@@ -179,39 +181,36 @@ fn check_runs(
 /// of them for a scramble; what is written there says nothing. If the answer says `NoRoom`, nothing that is written does,
 /// and it tells how many attempts there are, or none if the moves have no room.
 pub fn check_attempts(
-    text: &[u8],
-    lines: &[TextLine],
-    parts: &[KnownPart],
-    known: &Known,
+    attempts: &Attempts,
     out: &mut [u8],
     places: &mut [u64],
     checks: &mut [AttemptCheck],
 ) -> AttemptsAnswer
-    ensures are { result.status ≡ 0 → ChecksAttempts ((length parts.now == 0) && (length known.now.ends.now == 0)) text.now lines.now parts.now
-        known.now.scrambles.now known.now.ends.now (take result.attempts checks.new) }
+    ensures are { result.status ≡ 0 → ChecksAttempts ((length attempts.now.parts.now == 0) && (length attempts.now.known.ends.now == 0))
+        attempts.now.text.now attempts.now.lines.now attempts.now.parts.now attempts.now.known.scrambles.now attempts.now.known.ends.now (take result.attempts checks.new) }
     ensures fits { result.status ≡ 0 → result.attempts ≤ length checks.old }
-    ensures room { 2 * most_bytes lines.now ≤ length out.old → 2 * most_bytes lines.now ≤ length places.old →
-        length lines.now + length parts.now ≤ length checks.old → result.status ≡ 0 }
+    ensures room { 2 * most_bytes attempts.now.lines.now ≤ length out.old → 2 * most_bytes attempts.now.lines.now ≤ length places.old →
+        length attempts.now.lines.now + length attempts.now.parts.now ≤ length checks.old → result.status ≡ 0 }
     ensures known { (result.status ≡ 0) ⊎ (result.status ≡ 4) }
-    ensures number { 2 * most_bytes lines.now ≤ length out.old → 2 * most_bytes lines.now ≤ length places.old →
-        result.attempts ≡ number_of_checks ((length parts.now == 0) && (length known.now.ends.now == 0)) lines.now parts.now }
+    ensures number { 2 * most_bytes attempts.now.lines.now ≤ length out.old → 2 * most_bytes attempts.now.lines.now ≤ length places.old →
+        result.attempts ≡ number_of_checks ((length attempts.now.parts.now == 0) && (length attempts.now.known.ends.now == 0)) attempts.now.lines.now attempts.now.parts.now }
     ensures or_none { (result.attempts ≡ 0)
-        ⊎ (result.attempts ≡ number_of_checks ((length parts.now == 0) && (length known.now.ends.now == 0)) lines.now parts.now) }
+        ⊎ (result.attempts ≡ number_of_checks ((length attempts.now.parts.now == 0) && (length attempts.now.known.ends.now == 0)) attempts.now.lines.now attempts.now.parts.now) }
     ensures behind { result.status ≡ 0 → drop result.attempts checks.new ≡ drop result.attempts checks.old }
 {
-    let counted = if parts.is_empty() && known.ends.is_empty() {
-        check_runs(text, lines, out, places, checks)
+    let counted = if attempts.parts.is_empty() && attempts.known.ends.is_empty() {
+        attempts.check_runs(out, places, checks)
     } else {
-        check_parts(text, lines, parts, known, out, places, checks)
+        attempts.check_parts(out, places, checks)
     };
     match counted {
-        Some(attempts) if attempts <= checks.len() => AttemptsAnswer {
+        Some(count) if count <= checks.len() => AttemptsAnswer {
             status: Status::Done.number(),
-            attempts,
+            attempts: count,
         },
-        Some(attempts) => AttemptsAnswer {
+        Some(count) => AttemptsAnswer {
             status: Status::NoRoom.number(),
-            attempts,
+            attempts: count,
         },
         None => AttemptsAnswer {
             status: Status::NoRoom.number(),

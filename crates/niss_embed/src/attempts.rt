@@ -179,22 +179,24 @@ fn doubt_of_steps(
     Some(Doubt::of_part(&part, &places[..count]))
 }
 
-/// What makes one doubt an attempt, which is solved, at fault, or neither.
-fn doubt_of(
-    text: &[u8],
-    lines: &[TextLine],
-    given: &Given,
-    is_unsolved: bool,
-    out: &mut [u8],
-    places: &mut [u64],
-) -> Option<Doubt>
-    ensures is { IfSome result (λ told. IsDoubt ((given.now.doubt.reason == 0) && is_unsolved) text.now lines.now given.now.scramble.now given.now.doubt told) }
-    ensures room { most_bytes lines.now ≤ length out.old → most_bytes lines.now ≤ length places.old → IsSome result }
-{
-    if given.doubt.reason == 0 && is_unsolved {
-        doubt_of_steps(text, lines, given.scramble, out, places)
-    } else {
-        Some(given.doubt)
+impl Given<'_> {
+    /// What makes one doubt the attempt, which is solved, at fault, or neither.
+    fn doubt_of(
+        &self,
+        text: &[u8],
+        lines: &[TextLine],
+        is_unsolved: bool,
+        out: &mut [u8],
+        places: &mut [u64],
+    ) -> Option<Doubt>
+        ensures is { IfSome result (λ told. IsDoubt ((self.now.doubt.reason == 0) && is_unsolved) text.now lines.now self.now.scramble.now self.now.doubt told) }
+        ensures room { most_bytes lines.now ≤ length out.old → most_bytes lines.now ≤ length places.old → IsSome result }
+    {
+        if self.doubt.reason == 0 && is_unsolved {
+            doubt_of_steps(text, lines, self.scramble, out, places)
+        } else {
+            Some(self.doubt)
+        }
     }
 }
 
@@ -214,7 +216,7 @@ pub(crate) fn check_by(
     let fault_at = fault_place(&check, given.places, &places[..count]);
     let has_solution = has_solution(lines);
     let is_unsolved = is_unsolved(has_solution, &check);
-    let doubt = doubt_of(text, lines, given, is_unsolved, out, places)?;
+    let doubt = given.doubt_of(text, lines, is_unsolved, out, places)?;
     Some(Judged {
         fault_at,
         doubt_at: doubt.at,

@@ -12,6 +12,7 @@ use crate::attempts::{
 };
 use crate::line_texts::read_by;
 use crate::runs::{Placed, Run, next_run};
+use crate::stretch::stretch;
 use niss_moves::{LineReader, LineText, Niss};
 use niss_shell::{MOST_BYTES, Rewriting, rewrite};
 use niss_text::TextLine;
@@ -33,30 +34,6 @@ pub struct Found {
     pub is_same: bool,
     /// Where its first move stands.
     pub at: usize,
-}
-
-/// Those of some lines from one to another, as far as they go.
-pub(crate) fn lines_between(lines: &[TextLine], begin: usize, end: usize) -> &[TextLine]
-    ensures { result.now ≡ slice_range lines.now begin end }
-{
-    let end = end.min(lines.len());
-    if begin < end {
-        &lines[begin..end]
-    } else {
-        &lines[..0]
-    }
-}
-
-/// Those of some bytes from one to another, as far as they go.
-fn bytes_between(bytes: &[u8], begin: usize, end: usize) -> &[u8]
-    ensures { result.now ≡ slice_range bytes.now begin end }
-{
-    let end = end.min(bytes.len());
-    if begin < end {
-        &bytes[begin..end]
-    } else {
-        &bytes[..0]
-    }
 }
 
 impl Known<'_> {
@@ -90,7 +67,7 @@ impl Known<'_> {
             × (scramble.now ≡ scramble_of self.now.scrambles.now self.now.ends.now number)) }
     {
         let end = self.ends.get(number)?;
-        Some(bytes_between(self.scrambles, self.begin_of(number), *end as usize))
+        Some(stretch(self.scrambles, self.begin_of(number), *end as usize))
     }
 }
 
@@ -186,7 +163,7 @@ impl Solution<'_> {
             };
             return self.alone(doubt, out, places);
         }
-        let lines = lines_between(self.others, run.first, run.end);
+        let lines = stretch(self.others, run.first, run.end);
         let judged = check_own(self.text, lines, out, places)?;
         Some(Placed { lines: run, judged })
     }
@@ -198,7 +175,7 @@ impl Solution<'_> {
             2 * most_bytes (slice_range self.now.others.now run.first run.end) ≤ length out.old →
             2 * most_bytes (slice_range self.now.others.now run.first run.end) ≤ length places.old → IsSome result }
     {
-        let lines = lines_between(self.others, run.first, run.end);
+        let lines = stretch(self.others, run.first, run.end);
         let found = found_in(self.text, lines, self.scramble, out, places)?;
         let is_meant = is_only && (found.is_same && !has_solution(self.own));
         self.or_of(run, found, is_meant, out, places)

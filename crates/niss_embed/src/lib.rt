@@ -41,11 +41,12 @@ mod search_answer;
 mod sides;
 mod sides_answer;
 mod step_corners;
+mod stretch;
 mod two_lines;
 mod ways_answer;
 
 pub use answer::{Answer, LineAnswer, Status};
-pub use attempt_checks::{AttemptCheck, AttemptsAnswer, check_attempts};
+pub use attempt_checks::{AttemptCheck, Attempts, AttemptsAnswer, check_attempts};
 pub use attempts::Judged;
 pub use best::{best_ways, line_after};
 pub use call::run_bytes;

@@ -1,14 +1,15 @@
 //! Whether a part of the steps of an attempt solves its scramble.
-ghost use Rattle.std.specs.Prelude.{◌≡◌, ◌<◌, ◌≤◌, ◌+◌, ◌-◌, ◌++◌, ℕ, List, [], ◌∷◌, Ok, length, map, take, slice_index, slice_range, IfSome};
+ghost use Rattle.std.specs.Prelude.{◌≡◌, ◌<◌, ◌≤◌, ◌+◌, ◌-◌, ◌++◌, ℕ, List, [], ◌∷◌, Ok, length, map, take, IfSome};
 ghost use Rattle.niss_moves.specs.Reader.{IsFed, read_line};
 ghost use Rattle.niss_embed.specs.Parts.{bounds_of, is_end, read_byte, how_number, arranged, solves_line, solves_part, solves_whole, part};
 ghost use Rattle.niss_shell.specs.Words.{most_bytes};
 ghost use Rattle.niss_embed.specs.Corners.{AreBounds, IsAttempt, IsAroundPart};
-ghost use Rattle.niss_embed.specs.Parts.{IsHow, IsFirstFrom, IsFound, IsWithin, TellsPart, answer_of, no_part, end_of_steps};
+ghost use Rattle.niss_embed.specs.Parts.{IsHow, IsFirstFrom, IsFound, IsWithin, TellsPart, answer_of, no_part};
 
 use crate::answer::Status;
 use crate::line_texts::read_by;
 use crate::step_corners::{Around, AttemptCorners};
+use crate::stretch::stretch;
 use arrayvec::ArrayVec;
 use niss_moves::{LineReader, Niss};
 use niss_shell::{MOST_BYTES, move_count, solves};
@@ -126,19 +127,6 @@ fn push_bound(bounds: &mut ArrayVec<usize, 9>, place: usize)
 {
     if !bounds.is_full() {
         bounds.push(place);
-    }
-}
-
-/// What stands in a text from one place to another, as far as it goes.
-pub fn stretch(text: &[u8], begin: usize, end: usize) -> &[u8]
-    ensures is { result.now ≡ slice_range text.now begin end }
-    ensures fits { length result.now ≤ length text.now }
-{
-    let end = end.min(text.len());
-    if begin < end {
-        &text[begin..end]
-    } else {
-        &text[..0]
     }
 }
 

@@ -12,7 +12,8 @@ ghost use Rattle.niss_embed.specs.declared.parts.Brackets.TheVariants.{Kept};
 
 use crate::corners::Corners;
 use crate::line_facts::has_brackets;
-use crate::parts::{Brackets, How, feed, stretch};
+use crate::parts::{Brackets, How, feed};
+use crate::stretch::stretch;
 use arrayvec::ArrayVec;
 use niss_moves::laws::{line_is_read, one_reading, rotated_is_tested};
 use niss_moves::{LineReader, Niss, unniss};

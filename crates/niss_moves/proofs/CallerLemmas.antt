@@ -6,5 +6,5 @@ pub use Rattle.niss_moves.proofs.Finite.{and_left, and_right, and_both, turn, at
 pub use Rattle.niss_moves.proofs.Finite.{Below, Alike, Both, When, Numbers, Places, Faces, Turns, Among, Tokens, Digits, Truths, Holds}
 pub use Rattle.niss_moves.proofs.Finite.{tested, holds, find_passes}
 unfoldable pub use Rattle.niss_moves.proofs.Finite.{every_face, every_power, every_axis, every_slice, every_token, every_turn}
-pub use Rattle.niss_moves.proofs.Effects.{effect-append, inverse_after, inverse_before, inverse_whole}
+pub use Rattle.niss_moves.proofs.Effects.{effect-append, inverse-append, inverse_after, inverse_before, inverse_whole}
 pub use Rattle.niss_moves.proofs.CanonicalLists.{last_turn-push}

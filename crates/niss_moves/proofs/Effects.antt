@@ -31,7 +31,7 @@ twice_token (Token.Wide f p) = ap (Token.Wide f) (twice_power p)
 twice_token (Token.Slice f p) = ap (Token.Slice f) (twice_power p)
 twice_token (Token.Rotation f p) = ap (Token.Rotation f) (twice_power p)
 
-inverse-append : (s t : List Token) → inverse (s ++ t) ≡ inverse t ++ inverse s
+pub inverse-append : (s t : List Token) → inverse (s ++ t) ≡ inverse t ++ inverse s
 inverse-append s t = ap reverse (map-append inverse_token s t) ∙ reverse-append (map inverse_token s) (map inverse_token t)
 
 inverse-inverse : (s : List Token) → inverse (inverse s) ≡ s

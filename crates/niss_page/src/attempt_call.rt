@@ -3,7 +3,7 @@ ghost use Rattle.std.specs.Prelude.{◌≡◌, ◌≤◌, ◌*◌, ◌+◌, ◌&
 ghost use Rattle.niss_text.specs.Moves.{most_bytes};
 ghost use Rattle.niss_embed.specs.Attempts.{ChecksAttempts, number_of_checks};
 
-use niss_embed::{AttemptCheck, AttemptsAnswer, Known, check_attempts};
+use niss_embed::{AttemptCheck, Attempts, AttemptsAnswer, Known, check_attempts};
 use niss_text::{KnownPart, TextLine};
 
 /// Checks all attempts of a text by its lines, or its parts if it has only solutions of known scrambles, which end at
@@ -31,6 +31,11 @@ pub extern "C" fn nissy_check_attempts(
         ⊎ (result.attempts ≡ number_of_checks ((length parts.now == 0) && (length ends.now == 0)) lines.now parts.now) }
     ensures behind { result.status ≡ 0 → drop result.attempts checks.new ≡ drop result.attempts checks.old }
 {
-    let known = Known { scrambles, ends };
-    check_attempts(text, lines, parts, &known, out, places, checks)
+    let attempts = Attempts {
+        text,
+        lines,
+        parts,
+        known: Known { scrambles, ends },
+    };
+    check_attempts(&attempts, out, places, checks)
 }

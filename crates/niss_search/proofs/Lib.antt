@@ -25,3 +25,4 @@ pub mod BeginningLemmas
 pub mod BothLemmas
 pub mod JoinedLemmas
 pub mod BothBounds
+pub mod CallerLemmas

@@ -1,10 +1,10 @@
 use Rattle.std.proofs.Common.{◌++◌, map, refl}
 use Rattle.niss_moves.specs.Effects.{inverse}
 use Rattle.niss_moves.specs.Line.{joined_moves}
+use Rattle.niss_moves.proofs.CallerLemmas.{inverse-append}
 use Rattle.niss_embed.specs.declared.parts.Brackets.TheVariants.{Kept}
 use Rattle.niss_embed.specs.Parts.{arranged, read_byte}
 use Rattle.niss_embed.specs.declared.parts.How.TheVariants.{Alone, LeftOut, InBrackets}
-use Rattle.niss_embed.proofs.CornerLemmas.{inverse-append}
 use Rattle.niss_embed.proofs.CornerLines.{refused_by, spells_both, spells_around, inverse_around}
 use Rattle.niss_embed.proofs.step_corners.Around.may_solve.Goals as goal
 

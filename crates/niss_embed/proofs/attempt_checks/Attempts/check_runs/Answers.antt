@@ -1,16 +1,17 @@
 use Rattle.std.proofs.Common.{◌≡◌, length, take, refl, ap, arith}
 use Rattle.niss_embed.specs.Attempts.{IsOfAttempt, attempts_from}
 use Rattle.niss_embed.proofs.AttemptRuns.{one_check, no_check, behind_check}
-use Rattle.niss_embed.proofs.attempt_checks.check_runs.Goals as goal
+use Rattle.niss_embed.proofs.attempt_checks.Attempts.check_runs.Goals as goal
 
 pub loop-run-preserved : goal.loop-run-preserved
 loop-run-preserved c =
+    let it = c.args.self.now in
     let found = c.in-Some.ensures in
     let same : length c.put_check.new.checks ≡ length c.loop-run.checks = c.put_check.auto.checks in
     let inv = c.loop-run.invariant in
     record {
-      are = λ room. one_check (IsOfAttempt c.args.text.now c.args.lines.now) (attempts_from 0 c.args.lines.now) (attempts_from c.loop-run.at c.args.lines.now)
-          (attempts_from c.in-Some.run'.end c.args.lines.now) c.in-Some.run' c.loop-run.checks c.put_check.new.checks c.loop-run.count _ found.3
+      are = λ room. one_check (IsOfAttempt it.text.now it.lines.now) (attempts_from 0 it.lines.now) (attempts_from c.loop-run.at it.lines.now)
+          (attempts_from c.in-Some.run'.end it.lines.now) c.in-Some.run' c.loop-run.checks c.put_check.new.checks c.loop-run.count _ found.3
           (omega (arith, room, same)) c.put_check.ensures (record { scramble = refl; name = (refl, refl); of_run = (refl, c.in_ok-judged.ensures.is) })
           (inv.are (omega (arith, room, same)));
       few = omega (arith, inv.few, found.0, found.1);
@@ -21,7 +22,8 @@ loop-run-preserved c =
 
 pub returns-clause-are : goal.returns-clause-are
 returns-clause-are c = λ room.
-    no_check (IsOfAttempt c.args.text.now c.args.lines.now) (attempts_from 0 c.args.lines.now) (attempts_from c.loop-run.at c.args.lines.now)
+    let it = c.args.self.now in
+    no_check (IsOfAttempt it.text.now it.lines.now) (attempts_from 0 it.lines.now) (attempts_from c.loop-run.at it.lines.now)
     (take c.loop-run.count c.loop-run.checks) c.in_default.ensures (c.loop-run.invariant.are room)
 
 pub returns-clause-all : goal.returns-clause-all

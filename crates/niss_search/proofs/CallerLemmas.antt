@@ -1,0 +1,3 @@
+-- Facts that the crates above cite. Of this crate's proofs they name this file alone.
+
+pub use Rattle.niss_search.proofs.BothLemmas.{range_push}
