@@ -70,6 +70,12 @@ class WrittenLine(NamedTuple):
     left_out: int
 
 
+def end_unless_made(status: int) -> None:
+    """Raises MemoryError if a call was refused memory, of which some take a little in nissy.c."""
+    if status == _library.STOPPED:
+        raise MemoryError("no memory for the lines of a text")
+
+
 def written_by(most: int, call: Callable[..., Any]) -> WrittenLine:
     """Returns what a call writes into a room of this many bytes and places."""
     size = (1 + _PLACE) * most
@@ -80,6 +86,7 @@ def written_by(most: int, call: Callable[..., Any]) -> WrittenLine:
     places = memoryview(bytes(room.memory[: _PLACE * answer.length])).cast("Q")
     if size <= _rooms.ORDINARY:
         _rooms.put_back(room)
+    end_unless_made(answer.status)
     return WrittenLine(line, places, answer.left_out)
 
 
