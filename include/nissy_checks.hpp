@@ -98,10 +98,11 @@ private:
         std::string out(most, '\0');
         std::vector<std::uint64_t> places(most);
         checks.resize(lines.size() + parts.size());
-        checks.resize(nissy_check_attempts(text_bytes(text), text.size(), lines.data(), lines.size(), parts.data(), parts.size(),
-                                           text_bytes(known.bytes), known.bytes.size(), known.ends.data(), known.ends.size(),
-                                           reinterpret_cast<std::uint8_t *>(out.data()), most, places.data(), most, checks.data(), checks.size())
-                          .attempts);
+        const nissy_attempts_answer told = nissy_check_attempts(text_bytes(text), text.size(), lines.data(), lines.size(), parts.data(), parts.size(),
+                                                                text_bytes(known.bytes), known.bytes.size(), known.ends.data(), known.ends.size(),
+                                                                bytes(out), most, places.data(), most, checks.data(), checks.size());
+        end_unless_made(told.status);
+        checks.resize(told.attempts);
     }
 };
 

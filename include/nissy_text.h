@@ -42,7 +42,7 @@ enum nissy_line_kind {
 /* What makes one doubt that a line is read as it was meant. */
 enum nissy_doubt {
     NISSY_NO_DOUBT = 0,
-    NISSY_ANOTHER_SCRAMBLE = 1,  /* after all of a scramble the line goes on */
+    NISSY_ANOTHER_SCRAMBLE = 1,  /* after all of a scramble the line goes on; of a check: another one stands beside a known scramble's solution */
     NISSY_SEVERAL_SOLUTIONS = 2, /* which of several groups is the solution can't be seen */
     NISSY_SIDE = 3,              /* a side is named, such as the inverse, and the moves have no brackets */
     NISSY_LETTERS = 4,           /* letters stand together as moves don't elsewhere in the line, such as F2L or xD */
@@ -61,8 +61,8 @@ typedef struct nissy_text_line {
     uint8_t headed;   /* a head stands before head_end, such as "2." or "Scramble 2:": the first one of an attempt is its name */
     uint8_t labelled; /* its label, from label_begin to label_end, says that the solution follows */
     uint8_t inverse;  /* it is said of this step that it is on the inverse, and it has no brackets */
-    uint8_t doubt;    /* one of nissy_doubt: of a line of the scramble or the solution, or if there is none, of any step or note. It counts if
-                       * the solution doesn't solve the scramble: what does was read as it was meant */
+    uint8_t doubt;    /* one of nissy_doubt: of a line of the scramble or of the solution; of any step or note if it can't be seen which of them are
+                       * the solution. It counts if no solution solves the scramble: what does was read as it was meant */
     uint64_t attempt; /* which attempt, from 0 */
     uint64_t group;   /* of a step or a note: 0 directly under the scramble, and then the blocks after blank lines */
     uint64_t begin;   /* of the line */
@@ -188,9 +188,10 @@ typedef struct nissy_attempt_check {
     uint64_t name_end;
     uint64_t first_line;      /* which of the lines is its first one, from 0 */
     uint64_t end_line;        /* which is the first after them */
-    uint64_t fault_at;        /* after NISSY_FAULT where it stands in the text; NISSY_NO_PLACE of a known scramble */
-    uint64_t doubt_at;        /* where the doubt is seen */
-    uint8_t doubt;            /* one of nissy_doubt, of its first line that has one, or of the two above */
+    uint64_t fault_at;        /* after NISSY_FAULT where it stands in the text; NISSY_NO_PLACE of a known scramble, or if nothing is at fault */
+    uint64_t doubt_at;        /* where the doubt is seen; NISSY_NO_PLACE if there is none */
+    uint8_t doubt;            /* that of its first line that has one, else NISSY_A_PART or none. With known scrambles, before these,
+                               * NISSY_WHICH_SCRAMBLE or, as told below, NISSY_ANOTHER_SCRAMBLE */
     uint8_t doubted;          /* the doubt counts: nothing is at fault, and there is no solution that solves */
     uint8_t checked;          /* it has a solution, and it can be seen of which scramble: then `check` says more than a fault */
     nissy_check_answer check; /* what nissy_check says of its scramble and its solution, which is empty if there is none */
@@ -206,8 +207,8 @@ typedef struct nissy_attempts_answer {
 /* Checks all attempts of a text that have a scramble, by the lines that nissy_text_lines tells of it: `parts` and `ends` are then empty. Or it
  * checks the parts that nissy_known_lines tells of a text, with its lines, of as many known scrambles as `ends` has: these stand one after another
  * in `scrambles`, and each ends there. A part is then the solution of its scramble by its first lines. If one attempt beside them has a scramble,
- * there is no other solution, and both scrambles make the same cube, that attempt is checked; else one with a scramble is NISSY_ANOTHER_SCRAMBLE. A
- * part without lines is a scramble without a solution.
+ * there is no other solution, and both scrambles make the same cube, held the same way, that attempt is checked; else one with a scramble is
+ * NISSY_ANOTHER_SCRAMBLE. A part without lines is a scramble without a solution.
  *
  * Six bytes and places for each from `moves` to `comment` of a line, and six for each line, are never too few for `out` and `places`, which the call
  * uses; as many checks as lines and parts aren't either. If the status isn't NISSY_DONE, nothing in the rooms says anything. It takes no memory. Of

@@ -12,6 +12,8 @@
 #include <algorithm>
 #include <array>
 #include <cstddef>
+#include <cstdint>
+#include <new>
 #include <optional>
 #include <string>
 #include <string_view>
@@ -45,11 +47,17 @@ inline constexpr std::array<const char *, 6> LEFT_OUT = {"labels",       "number
 
 inline const std::uint8_t *text_bytes(std::string_view text) { return reinterpret_cast<const std::uint8_t *>(text.data()); }
 
+// Throws if a call was refused memory, of which some take a little in nissy.c.
+inline void end_unless_made(std::uint8_t status) {
+    if (status == NISSY_STOPPED) throw std::bad_alloc();
+}
+
 // What a call writes as a line into a room of this many bytes, and of as many places.
 template <typename Call> plain written_by(std::size_t room, Call call) {
     plain made = {std::string(room, '\0'), {}, {}};
     std::vector<std::uint64_t> places(room);
     const nissy_plain_answer told = call(reinterpret_cast<std::uint8_t *>(made.line.data()), places.data());
+    end_unless_made(told.status);
     made.line.resize(told.length);
     made.places.assign(places.begin(), places.begin() + static_cast<std::ptrdiff_t>(told.length));
     for (std::size_t bit = 0; bit < LEFT_OUT.size(); bit++)

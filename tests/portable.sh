@@ -94,7 +94,7 @@ linked() { # COMPILER NAME TEST WORD..: the test of this name with the file as i
         "tests/library/$3.c" "$room/$2.o"
 }
 rows_in_c "$room/rows"
-for trial in "calls few" facts "ways few" "sides few" text fuzz "threads 0 10"; do
+for trial in "calls few" facts "ways few" "sides few" text attempts fuzz "threads 0 10"; do
     name=${trial%% *} words=()
     [ "$name" = "$trial" ] || read -ra words <<< "${trial#* }"
     holds "$name.c is linked with nissy.c" linked gcc sanitized "$name" "${sanitized[@]:2}"
@@ -105,16 +105,19 @@ by_other() { # TEST NAME COMPILER [RUNNER]: each number of an answer, by a proce
     holds "$1.c is linked with it for $2" linked "$3" "$2" "$1" -static
     add "${@:4}" "$room/$2.$1" few
 }
-for name in calls facts ways sides text; do by_other $name i686 i686-linux-gnu-gcc; done
-for name in facts ways sides text; do missing qemu-s390x || by_other $name s390x s390x-linux-gnu-gcc qemu-s390x; done
+for name in calls facts ways sides text attempts; do by_other $name i686 i686-linux-gnu-gcc; done
+for name in facts ways sides text attempts; do missing qemu-s390x || by_other $name s390x s390x-linux-gnu-gcc qemu-s390x; done
 holds "threads.c is linked with it for races" linked gcc raced threads -fsanitize=thread
 add "$room/raced.threads" 0 5
-in_c_plus_plus() { # the headers in C++ over it
-    g++ -std=c++17 -O1 -DNISSY_IN_C -pthread "$(wraps nissy)" -Iinclude -Itests/library -I"$room/rows" -o "$room/plus" tests/library/nissy.cpp "$room/gcc.o"
+in_c_plus_plus() { # NAME WORD..: the headers in C++ over the file as it was compiled
+    g++ -std=c++17 -O1 -DNISSY_IN_C "${@:2}" -pthread "$(wraps nissy)" -Iinclude -Itests/library -I"$room/rows" -o "$room/$1.plus" \
+        tests/library/nissy.cpp "$room/$1.o"
 }
 if missing g++; then skips "nissy.hpp over nissy.c, since there is no g++"; else
-    holds "nissy.cpp is linked with it" in_c_plus_plus
-    add "$room/plus"
+    holds "nissy.cpp is linked with it" in_c_plus_plus gcc
+    add "$room/gcc.plus"
+    holds "nissy.cpp is linked with it byte by byte, which takes memory for copies" in_c_plus_plus bytewise -DNISSY_BYTEWISE
+    add "$room/bytewise.plus"
 fi
 holds "handlers.c is linked with it" linked gcc gcc handlers
 add "$room/gcc.handlers"

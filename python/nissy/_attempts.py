@@ -48,7 +48,7 @@ class AttemptDoubt(NamedTuple):
 
     reason: str
     """"another scramble", "several solutions", "side", "letters", "small letters", "comment", "repetition",
-    "insertion", or of a check "a part"."""
+    "insertion", or of a check "a part" or "which scramble"."""
     place: TextPlace
     """Where it is seen in the text."""
 

@@ -12,7 +12,7 @@ from ._library import ATTEMPT_CHECK, DONE, KNOWN_PART, MOST_INPUT
 from ._lines import fault_of
 from ._tokens import places_of
 from ._values import LineFault, named
-from ._written import PlainLine, TextPlace, Written, place_in, string_of
+from ._written import PlainLine, TextPlace, Written, end_unless_made, place_in, string_of
 
 # the library's numbers of no scramble and of no place, and of the doubt of a part, which isn't one of the reading
 _NONE, _A_PART = 2**64 - 1, 9
@@ -120,6 +120,7 @@ class _Checks:
         known = (scrambles, len(scrambles), ctypes.addressof(self._ends), len(self._ends))
         rooms = (room.address + _PLACE * most, most, room.address, most, checks, count)
         told = _library.nissy_check_attempts(data, len(data), reader.address, reader.count, *of_parts, *known, *rooms)
+        end_unless_made(told.status)
         return int(told.attempts)
 
     def all(self) -> Sequence[AttemptCheck]:

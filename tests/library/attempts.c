@@ -1,9 +1,5 @@
 /* The call that checks the attempts of a text, by hand and on drawn texts, in rooms behind which no memory is, beside the calls on one attempt. */
-#include "trial.h"
-
-#include "nissy_text.h"
-
-enum { DRAWN = 20000, MOST_PARTS = 12 };
+#include "texts.h"
 
 /* What is written of the moves of some lines, and what of these the place of a fault of a check is. */
 static guarded moves_of(guarded text, const nissy_text_line *lines, uint64_t count, uint8_t which, uint64_t *places) {
@@ -66,25 +62,6 @@ static void checks_are_of_the_text(guarded text, const char *name) {
     let_go(out), let_go(places), let_go(room);
 }
 
-static void drawn_texts(void) {
-    static const char *const PARTS[] = {
-        "R U F", "\n",         "\r\n", "\r",           "// ",  "EO: ",           "Solution: ",       "1. ", "#2 ", "R' U' F D R' U' F",
-        "(",     ")",          "(2)",  "\xe2\x80\x99", "\xe2", "\xff",           "\xc2\xa0",         "`",   ",",   "DR",
-        "F2L",   "on inverse", " - ",  "[0:12] ",      "r u",  "Attempt 1 of 3", "\xf0\x9f\x8e\xb2", "",    "E1 ", "23\n"};
-    enum { COUNT = sizeof PARTS / sizeof *PARTS };
-    unsigned state = 3;
-    for (int drawn = 0; drawn < DRAWN; drawn++) {
-        char text[32 * MOST_PARTS] = "";
-        for (int part = drawn % MOST_PARTS; part > 0; part--) {
-            state = state * 1103515245 + 12345;
-            strcat(text, PARTS[state / 65536 % COUNT]);
-        }
-        guarded read = copied(text, strlen(text));
-        checks_are_of_the_text(read, text);
-        let_go(read);
-    }
-}
-
 /* Whether a text of attempts, or of solutions of `known` scrambles, has this check. The numbers are those of its struct up to `checked`, and then the
  * status, the line and whether it is solved. */
 static void has_check(const char *text, const char *const *scrambles, size_t known, unsigned nth, const uint64_t wanted[13]) {
@@ -131,7 +108,7 @@ static void checks_of_attempts(void) {
 }
 
 int main(void) {
-    drawn_texts();
+    drawn_texts(3, checks_are_of_the_text);
     checks_of_attempts();
     return ended();
 }

@@ -248,6 +248,12 @@ void refused_memory_is_thrown() {
     refuses_each([] { nissy::tables("dr-eoud"); }, "the tables of dr-eoud", 2);
     holds(nissy::tables("dr-eoud").count("").length == 0, "the tables are built later", "dr-eoud");
     refuses_each([] { holds(nissy::scrambles(1, 2, 3, 4).size() == 4, "they are drawn later", "scrambles"); }, "the words of scrambles", blocks);
+#ifdef NISSY_BYTEWISE
+    // of what the caller tells nissy.c again it makes three copies of another order of bytes for a check, and one for moves
+    refuses_each([] { holds(nissy::check_attempts("R U\n\nU' R'")[0].check->solved, "it is checked later", "R U"); }, "a check", 4);
+    refuses_each([] { holds(nissy::check_attempts("U' R'", {"R U"})[0].check->solved, "it is checked later", "U' R'"); }, "a known one", 4);
+    refuses_each([] { holds(nissy::read_attempts("R U")[0].scramble.line == "R U", "it is read later", "R U"); }, "a reading", 1);
+#endif
 }
 
 // Many solutions come whole, in rooms that grow: all that are counted, each of its length.
@@ -307,7 +313,7 @@ int main() {
          {lines_are_read,          faults_are_thrown,    columns_are_counted,      text_is_read,      places_are_found,    forms_are_found,
           attempts_are_read,       attempts_are_checked, known_are_checked,        pairs_are_checked, forms_are_placed,    misuse_is_thrown,
           many_lines_are_answered, searches_are_cut,     progress_is_told,         best_is_stopped,   all_have_their_best, many_rows_have_room,
-          sides_are_listed,        stickers_are_found,   refused_memory_is_thrown, many_are_whole,    objects_are_values})
+          sides_are_listed,        stickers_are_found,   refused_memory_is_thrown, many_are_whole,    objects_are_values,  refused_lines_are_thrown})
         trial();
     holds(nissy_version() == NISSY_VERSION_NUMBER, "the library's", "version");
     return ended();

@@ -1,10 +1,6 @@
 /* The calls that read text as solvers write it, on rows by hand and on drawn texts, in rooms behind which no memory is. What each text is read as,
    tests/library/kinds.py and tests/hosts say. */
-#include "trial.h"
-
-#include "nissy_text.h"
-
-enum { DRAWN = 20000, MOST_PARTS = 12 };
+#include "texts.h"
 
 /* What a text and its line have in common: each byte of the line is that of its place, or stands for it. */
 static int is_of_its_place(guarded text, const uint8_t *line, const uint64_t *places, uint64_t at) {
@@ -121,26 +117,12 @@ static void parts_are_of_the_text(guarded text, const char *name) {
     let_go(room), let_go(of_parts), let_go(counts);
 }
 
-static void drawn_texts(void) {
-    static const char *const PARTS[] = {
-        "R U F", "\n",         "\r\n", "\r",           "// ",  "EO: ",           "Solution: ",       "1. ", "#2 ", "R' U' F D R' U' F",
-        "(",     ")",          "(2)",  "\xe2\x80\x99", "\xe2", "\xff",           "\xc2\xa0",         "`",   ",",   "DR",
-        "F2L",   "on inverse", " - ",  "[0:12] ",      "r u",  "Attempt 1 of 3", "\xf0\x9f\x8e\xb2", "",    "E1 ", "23\n"};
-    enum { COUNT = sizeof PARTS / sizeof *PARTS };
-    unsigned state = 1;
-    for (int drawn = 0; drawn < DRAWN; drawn++) {
-        char text[32 * MOST_PARTS] = "";
-        for (int part = drawn % MOST_PARTS; part > 0; part--) {
-            state = state * 1103515245 + 12345;
-            strcat(text, PARTS[state / 65536 % COUNT]);
-        }
-        guarded read = copied(text, strlen(text));
-        plain_is_of_the_text(read, text);
-        lines_are_of_the_text(read, text);
-        moves_are_of_the_text(read, text);
-        parts_are_of_the_text(read, text);
-        let_go(read);
-    }
+/* All that is said of a text is of it. */
+static void all_is_of_the_text(guarded text, const char *name) {
+    plain_is_of_the_text(text, name);
+    lines_are_of_the_text(text, name);
+    moves_are_of_the_text(text, name);
+    parts_are_of_the_text(text, name);
 }
 
 /* A sheet of two attempts, the second with the label of a solution that names a side. */
@@ -331,7 +313,7 @@ static void nothing(void) {
 }
 
 int main(void) {
-    drawn_texts();
+    drawn_texts(1, all_is_of_the_text);
     a_sheet();
     known_scrambles();
     moves_of_a_sheet();

@@ -136,6 +136,16 @@ void attempts_are_checked() {
     }
 }
 
+// Whether a call that was refused memory throws, and doesn't return a line without moves.
+void refused_lines_are_thrown() {
+    try {
+        nissy::detail::written_by(3, [](std::uint8_t *, std::uint64_t *) { return nissy_plain_answer{NISSY_STOPPED, 0, 0}; });
+        holds(0, "it throws", "refused memory");
+    } catch (const std::bad_alloc &thrown) {
+        holds(thrown.what()[0] != 0, "it says what", "refused memory");
+    }
+}
+
 // What the rows of tests/calls.tsv say of known scrambles, the hosts try; this is what they can't tell.
 void known_are_checked() {
     static constexpr char TEXT[] = "Attempt 2 of 3: U\xe2\x80\x99\nAttempt 1 of 3: R\xe2\x80\x99 q";

@@ -238,6 +238,21 @@ def odd_checks(tally: Tally) -> None:
     )
 
 
+def refused(tally: Tally) -> None:
+    """Calls that were refused memory, as some are of nissy.c, tell that, and no attempt without moves."""
+    library = untyped._library
+    calls: List[Tuple[str, Any, Callable[[], object]]] = [
+        ("nissy_text_moves", library.PlainAnswer, lambda: nissy.read_attempts("R U")[0]),
+        ("nissy_check_attempts", library.AttemptsAnswer, lambda: nissy.check_attempts("R U\n\nU' R'")),
+        ("nissy_check_attempts", library.AttemptsAnswer, lambda: nissy.check_attempts("U' R'", scrambles=["R U"])),
+    ]
+    for name, answer, call in calls:
+        asked = getattr(library, name)
+        setattr(library, name, lambda *given, made=answer: made(library.STOPPED))
+        tally.equal(f"{name} is refused memory", str(raised(MemoryError, call)), "no memory for the lines of a text")
+        setattr(library, name, asked)
+
+
 def wrong_types(tally: Tally) -> None:
     """Values of a type that a call doesn't take, told in words of the caller's."""
     wide = array.array("H", [82, 0x155])
@@ -288,4 +303,4 @@ def times(tally: Tally) -> None:
 
 
 if __name__ == "__main__":
-    tried(line, attempts, in_turn, places, checks, known, odd_checks, wrong_types, times)
+    tried(line, attempts, in_turn, places, checks, known, odd_checks, refused, wrong_types, times)
