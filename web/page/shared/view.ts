@@ -68,12 +68,13 @@ function scrollToNext(isFinished: boolean) {
   if (isFinished) part("copy-fmc").scrollIntoView({ block: "nearest" });
 }
 
-/** Has what follows a step come into view and have the focus. @param isFinished whether no step follows */
+/** Has what follows a step come into view and have the focus: the line, which is said to end so, if no step follows. */
 export function showStart(isFinished: boolean, table: { focus: () => void }) {
   // first, since the page is laid out for it, and the focus changes the marks
   scrollToNext(isFinished);
-  if (isFinished) part("copy-fmc").focus({ preventScroll: true });
-  else table.focus();
+  if (!isFinished) return table.focus();
+  part("line-heading").focus({ preventScroll: true });
+  announce(part("finished").textContent);
 }
 
 const KEY = "nissy-theme";
@@ -130,7 +131,7 @@ export function listenToKeys(acts: Record<string, () => void>) {
     // a field has its keys for itself, but for the one that closes its list
     if (isField && (event.key !== "Escape" || !part("solutions").contains(event.target))) return;
     // Escape closes help before it closes anything else
-    if (!Object.hasOwn(acts, event.key) || document.querySelector(":popover-open, dialog[open]")) return;
+    if (!Object.hasOwn(acts, event.key) || document.querySelector(":popover-open, dialog[open], .large")) return;
     event.preventDefault();
     acts[event.key]();
   });

@@ -19,10 +19,10 @@ export function placeNow(): Place {
   return { key, scroll: scrollY };
 }
 
-/** The sheet that the entry of the history is of, or 0. */
-export function sheetOfEntry(): number {
+/** The sheet that the entry of the history is of, 0 if that is of none, or null if it is new. */
+export function sheetOfEntry(): number | null {
   const { sheet } = fieldsOf(history.state);
-  return typeof sheet === "number" ? sheet : 0;
+  return typeof sheet === "number" ? sheet : null;
 }
 
 /** Keeps something more in the entry that is shown. */
