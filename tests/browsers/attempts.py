@@ -125,7 +125,7 @@ def doubts_steps(tally: Tally, browser: Browser) -> None:
         tally,
         "each step reaches what it says",
         ("script", PASTE, f"{LONGER}\nR' U F' R L // EO, then NISS\nD' F B' L2 D // DR", {}),
-        ("comes", "#line-list .reaches", ["EO R/L", "DR U/D"], {OF_STEPS: [], "scramble-doubt?": False}),
+        ("comes", "#line-list .reaches", ["EO R/L", "DR F/B"], {OF_STEPS: [], "scramble-doubt?": False}),
     )
 
 

@@ -1,6 +1,7 @@
 """What a finger does on a phone: the first tap after the scramble was edited, another scramble beside lines that are kept, undo, edits."""
 import re
 
+from best import LONGER, address_of
 from browser import Browser, Keys
 from narrow import SMALL, TARGET
 from steps import ADDRESS, SCRAMBLE
@@ -202,9 +203,9 @@ def is_even(tally: Tally, browser: Browser) -> None:
         tally,
         "two scrambles and a line",
         ("follow", "#scramble=R_U_F", {}),
-        ("follow", f"{ADDRESS}&steps=inverse.B_D_R_F2_B_D~normal.R_B-", {"scramble?": False, "desk-remove?": True}),
+        ("follow", f"{address_of(LONGER)}&steps=inverse.B_D_R_F2_B_D", {"scramble?": False, "desk-remove?": True}),
         ("wait", {"copy-desk?": True, undo: 1, uneven: 0}),
-        ("follow", f"{ADDRESS}&steps=inverse.B_D_R_F2_B_D~normal.R_B-_D2_R", {}),
+        ("follow", f"{address_of(LONGER)}&steps=inverse.B_D_R_F2_B_D~normal.R_B-_D2_R", {}),
     )
     tally.equal(
         "moves, and a trigger",

@@ -42,7 +42,7 @@ function goalsOf(walk: Walk): string[] {
 }
 
 /** Each move in an element of its own. */
-const eachOf = (moves: string) => moves.split(/([^ ()]+)/).map((word, at) =>
+const moveByMove = (moves: string) => moves.split(/([^ ()]+)/).map((word, at) =>
   (at % 2 === 0 ? word : element("span", { class: "move" }, word)));
 
 type Frame = { move: string; views: Record<Side, View> };
@@ -104,7 +104,7 @@ export class Nets {
     const count = this.#goals.length - 1;
     [this.#count, this.#frame] = [count, count];
     part("shown-line").replaceChildren(...walk.parts.flatMap((each, at) =>
-      [...withCases(bracketed([each]), walk.passed[at], eachOf), " "]));
+      [...withCases(bracketed([each]), walk.passed[at], moveByMove), " "]));
     [this.#ask, this.#frames] = [ask, null];
     part("cube").hidden = false;
     part("player").hidden = count === 0;

@@ -18,8 +18,7 @@ export function showBeginning(state: State) {
 
 export const waitsForAnswers = () => document.querySelector('[aria-busy="true"]:not([hidden])') !== null;
 
-/** Hides what an address shows until it is known, so that nothing is seen to move; what takes long is seen before.
- * @param state that is awaited, or null if it is there */
+/** Hides what an address shows until it is known, so that nothing is seen to move. @param state null if it is there */
 export function awaitAnswer(state: State | null) {
   // what was seen once stays seen, and keeps the focus
   if (state !== null && !document.body.matches(".awaited, .begun")) return;

@@ -56,8 +56,7 @@ function writeAddress(address: string, isStep: boolean, sheet: number) {
   if (!isWritten()) writing = setTimeout(writeAddress, AGAIN_AFTER, address, isStep, sheet);
 }
 
-/** Puts a state into the address if that has room for it, since a longer one isn't read.
- * @param isStep whether Back leads to what was before */
+/** Puts a state into the address if that has room for it. @param isStep whether Back leads to what was before */
 export function writeState(state: State, isStep: boolean, sheet: number) {
   const isLong = !fitsAddress(state);
   if (isLong || part("alert").textContent === NOT_IN_ADDRESS) tell(part("alert"), isLong ? NOT_IN_ADDRESS : "");
