@@ -18,45 +18,32 @@ ONE: tuple[tuple[str, str, str, list[str], str], ...] = (
 )
 # what is said of the steps that are in doubt, by their places
 OF_STEPS = "return all('#line-list li').flatMap((each, at) => [...each.querySelectorAll('.doubt:not([hidden])')].map((one) => [at, one.textContent]))"
-# texts in doubt: the text, the scramble, the line so far, what is said, the sign that is marked, how many stand before it, and the steps in doubt
-DOUBTS: tuple[tuple[str, str, str, str, str, int, list[int]], ...] = (
-    (
-        "R U F\n\nR U // premoves\nF' // EO",
-        "R U F",
-        "R U F'",
-        "“premoves” names a side, and its moves may belong on the other one",
-        "p",
-        14,
-        [0],
-    ),
+PREMOVES = "premoves stand before the scramble, but are read after it: premoves R U are (U' R') in brackets"
+ONE_SIDE = "“NISS” names a side, and its moves may belong on the other one"
+# texts with a step in doubt: the text, the line so far, what is said, and of which step
+OF_A_STEP = (
+    ("R U F\n\nR U // premoves\nF' // EO", "R U F'", PREMOVES, 0),
+    ("R U F\n\nF' // EO\nPre-Moves: R U", "F' R U", PREMOVES, 1),
+    ("R U F\n\nR U // NISS\nF' // EO", "R U F'", ONE_SIDE, 0),
+    (f"{LONGER}\nR' U F' R L // EO, then NISS\nD' F B' // DR", "R' U F' R L D' F B'", ONE_SIDE, 0),
     (
         "R U F\n\nAnna: F' U' R'\nBert: F' U' D",
-        "R U F",
         "F' U' R' F' U' D",
         "the steps don't solve the scramble, but some of them do",
-        "F",
-        13,
-        [0],
+        0,
     ),
-    ("R U F\n\nD\nF' // EO U' R' D", "R U F", "D F'", "moves stand in a comment, and are left out", "/", 12, [1]),
+    ("R U F\n\nD\nF' // EO U' R' D", "D F'", "moves stand in a comment, and are left out", 1),
+)
+# other texts in doubt: the text, the scramble, what is said, the sign that is marked, and how many stand before it
+DOUBTS = (
     (
         "R U F\n\nEO: D\n\nDR: L\n\nD L B",
         "R U F",
-        "",
         "of several solutions none is said to be the one that counts",
         "D",
         11,
-        [],
     ),
-    (
-        "R' U' F D R' U' F R U",
-        "R' U' F D R' U' F R U",
-        "",
-        "a whole scramble begins here, and more follows it",
-        "R",
-        0,
-        [],
-    ),
+    ("R' U' F D R' U' F R U", "R' U' F D R' U' F R U", "a whole scramble begins here, and more follows it", "R", 0),
 )
 SHEET = (
     "Hello!\nScramble 1 of 3\nR U F\nD // EO\n\nL2\n// a note\n\nScramble 2 of 3\nF' L2, U\nScramble 3 of 3\nB2 R q\n"
@@ -82,9 +69,8 @@ def reads_one(tally: Tally, browser: Browser) -> None:
 
 
 def doubts(tally: Tally, browser: Browser) -> None:
-    """A text that may be meant otherwise than it is read: why is said, with the place marked, and in the step that is meant, until anything is
-    changed, and not beside a fault."""
-    for text, scramble, line, said, sign, before, steps in DOUBTS:
+    """A text that may be meant otherwise than it is read: why is said, with the place marked, until anything is changed, and not beside a fault."""
+    for text, scramble, said, sign, before in DOUBTS:
         browser.open()
         browser.walk(
             tally,
@@ -94,12 +80,7 @@ def doubts(tally: Tally, browser: Browser) -> None:
                 "comes",
                 "#scramble-doubt p",
                 [f"In doubt: {said}."],
-                {
-                    "#scramble-doubt mark": [sign],
-                    "scramble=": scramble,
-                    "bracketed": line,
-                    OF_STEPS: [[at, f"In doubt: {said}."] for at in steps],
-                },
+                {"#scramble-doubt mark": [sign], "scramble=": scramble, "bracketed": "", OF_STEPS: []},
             ),
         )
         shown = browser.texts("#scramble-doubt pre")[0].split("\n")
@@ -125,6 +106,26 @@ def doubts(tally: Tally, browser: Browser) -> None:
         "a solution that solves",
         ("script", PASTE, "r u f\n\nf' u' r'", {}),
         ("comes", "steps", 1, {"scramble-doubt?": False}),
+    )
+
+
+def doubts_steps(tally: Tally, browser: Browser) -> None:
+    """A step that may be meant otherwise says so itself, once, until the line is changed; none does if each step reaches something."""
+    for text, line, said, at in OF_A_STEP:
+        browser.open()
+        browser.walk(
+            tally,
+            f"{text!r}",
+            ("script", PASTE, text, {}),
+            ("comes", OF_STEPS, [[at, f"In doubt: {said}."]], {"bracketed": line, "scramble-doubt?": False}),
+            ("act", f"#line-list li:nth-child({at + 1}) button:last-child", {OF_STEPS: []}),
+        )
+    browser.open()
+    browser.walk(
+        tally,
+        "each step reaches what it says",
+        ("script", PASTE, f"{LONGER}\nR' U F' R L // EO, then NISS\nD' F B' L2 D // DR", {}),
+        ("comes", "#line-list .reaches", ["EO R/L", "DR F/B"], {OF_STEPS: [], "scramble-doubt?": False}),
     )
 
 

@@ -60,6 +60,8 @@ def beside_each_other(tally: Tally, browser: Browser) -> None:
     tally.equal("four are", browser.text("kept-compare"), "Compare 4")
     browser.click("#kept-compare")
     tally.holds("they come", browser.until("return document.querySelector('#comparison').open"))
+    said = browser.texts("#comparison > .note")
+    tally.equal("it is said what isn't counted", ["don't reach the step earlier" in each for each in said], [True])
     shown = {each["line"]: each for each in browser.script(SHOWN)}
     tally.equal("each of them", set(shown), set(map(line_of, (EO, OTHER, DR, LAST))))
     for made in (EO, OTHER, DR, LAST):

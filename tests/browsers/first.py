@@ -1,6 +1,6 @@
 """The first visit, and another scramble that is typed: what a stranger sees, and what is left with the lines of the last one."""
 from best import LONGER, SCRAMBLE
-from browser import Browser, Keys
+from browser import HELD, Browser, Keys
 from tally import Tally
 
 CARDS = "return seen('.card').map((each) => each.id)"
@@ -37,12 +37,31 @@ def types_another(tally: Tally, browser: Browser) -> None:
     browser.walk(tally, "an emptied field leaves nothing yet", ("wait", WITH), ("press", LONGER[:14], {}))
     browser.settle("return location.hash.includes('scramble=R-_U-_F_D2_L2')")
     browser.walk(tally, "nor does the same scramble, typed again", ("wait", WITH), ("press", "B B B", {}))
+    # all of it is read, since a sign may come after a pause
+    browser.settle("return location.hash.endsWith('B_B_B')")
     browser.walk(
         tally,
         "another one does",
         ("comes", "kept", 0, WITHOUT | {"n #desk a[aria-current]": 1}),
         ("script", "history.back()", {}),
         ("comes", "hash", LINES, {}),
+    )
+
+
+def leaves_typed(tally: Tally, browser: Browser) -> None:
+    """What is typed just before Back doesn't come over what that leads to, though this takes a while."""
+    typed = """const it = part('scramble');
+        it.value = 'R U F D';
+        it.dispatchEvent(new InputEvent('input', { inputType: 'insertText' }));
+        history.back();
+        return new Promise((done) => setTimeout(() => done(window.goOn()), 500))"""
+    browser.walk(
+        tally,
+        "Back in the pause",
+        ("open", LINES, {}),
+        ("follow", "#scramble=R_U_F", {"scramble=": "R U F"}),
+        ("script", HELD % "readAddressed" + typed, {}),
+        ("comes", "scramble=", LONGER, WITH | {"hash": LINES}),
     )
 
 

@@ -43,7 +43,7 @@ def dimmed(tally: Tally, browser: Browser) -> None:
 
 
 def ends(tally: Tally, browser: Browser) -> None:
-    """After a step the first of the shortest cells has the focus, and after the last one the button that copies."""
+    """After a step the first of the shortest cells has the focus; after the last one the line, which goes on by hand, as is said."""
     browser.go("#scramble=R_U_F&list=eofb.normal.0.all")
     browser.act("#solutions-groups li:nth-child(2) .take")
     least = browser.script("return all('#steps-body .least').map((each) => each.dataset.cell)")
@@ -53,9 +53,10 @@ def ends(tally: Tally, browser: Browser) -> None:
         tally,
         "the last step",
         ("act", f'[data-cell="{least[0]}"]', {}),
-        ("act", "#solutions-groups .take", {"focus": "copy-fmc"}),
+        ("act", "#solutions-groups .take", {"focus": "line-heading"}),
     )
     tally.holds("it ends", "reached" in browser.text("finished"))
+    tally.equal("which is said", browser.look("said"), browser.text("finished"))
 
 
 def stays(tally: Tally, browser: Browser) -> None:

@@ -200,6 +200,10 @@ def keys_rest(tally: Tally, browser: Browser) -> None:
     browser.resize()
 
 
+# which way no move is left
+ENDS = "return all('#player [aria-disabled=true]').map((each) => each.id)"
+
+
 def plays(tally: Tally, browser: Browser) -> None:
     """The moves of the line are played on the nets. Who wants less motion goes a move a press by Play (see trifles)."""
     browser.go("#scramble=R_U&steps=normal.F_D~inverse.L")
@@ -213,7 +217,7 @@ def plays(tally: Tally, browser: Browser) -> None:
                 "until",
                 "return part('played').textContent.startsWith(arguments[0])",
                 f"{place} of 3",
-                {"letters normal": positions[place].letters("normal")},
+                {"letters normal": positions[place].letters("normal"), ENDS: ["play-back"] if place == 0 else []},
             ),
         )
     browser.walk(
@@ -222,6 +226,7 @@ def plays(tally: Tally, browser: Browser) -> None:
         ("click", "#play-on", {"played": "1 of 3: F", "letters inverse": positions[1].letters("inverse")}),
         ("click", "#play", {}),
         ("comes", "played", "3 of 3: (L)", {"play": "Play", "letters normal": positions[3].letters("normal")}),
+        ("wait", {ENDS: ["play-on"]}),
         ("go", "#scramble=R_U", {"letters normal": answer("print", "R U")}),
     )
 

@@ -1,6 +1,7 @@
 """What a finger does on a phone: the first tap after the scramble was edited, another scramble beside lines that are kept, undo, edits."""
 import re
 
+from best import LONGER, address_of
 from browser import Browser, Keys
 from narrow import SMALL, TARGET
 from steps import ADDRESS, SCRAMBLE
@@ -171,6 +172,54 @@ def is_whole(tally: Tally, browser: Browser) -> None:
     }).map((each) => each.textContent)"""
     tally.equal("numbers on another line than their word", browser.script(apart), [])
     tally.holds("there are some", any("in all" in text for text in browser.texts("#steps-body small")))
+
+
+def is_even(tally: Tally, browser: Browser) -> None:
+    """What belongs together has one height or one line, a button is as wide as its words, one alone undoes, and only a trigger is bold."""
+    tops = """const baseline = (each) => {
+            const at = Object.assign(document.createElement('span'), { style: 'display: inline-block' });
+            each.prepend(at);
+            const { bottom } = at.getBoundingClientRect();
+            at.remove();
+            return Math.round(bottom);
+        };
+        const evens = [seen('#best-options > summary, #best-more'), ...all('#best-body tr').map((row) => [...row.querySelectorAll('.axis, td.number')])];
+        return evens.filter((each) => new Set(each.map(baseline)).size !== 1).map((each) => each.map((one) => [one.textContent, baseline(one)]))"""
+    uneven = """return all('#steps-body tr').map((row) => new Set([...row.querySelectorAll('.cell')].map((each) => each.offsetHeight)).size)
+        .filter((count) => count > 1).length"""
+    room = """const words = document.createRange();
+        words.selectNodeContents(part('best-more'));
+        return part('best-more').offsetWidth - words.getBoundingClientRect().width < 26"""
+    weights = "return [...new Set(all(arguments[0]).map((each) => getComputedStyle(each).fontWeight))]"
+    undo = "return seen('button').filter((each) => each.textContent === 'Undo step').length"
+    for width in (390, 360, 320):
+        browser.resize(width, 844, True)
+        browser.open(ADDRESS)
+        browser.wait_best()
+        tally.equal(f"{width}: what has another baseline", browser.script(tops), [])
+        tally.holds(f"{width}: a button as wide as its words", browser.script(room))
+    browser.resize(390, 844, True)
+    browser.walk(
+        tally,
+        "two scrambles and a line",
+        ("follow", "#scramble=R_U_F", {}),
+        ("follow", f"{address_of(LONGER)}&steps=inverse.B_D_R_F2_B_D", {"scramble?": False, "desk-remove?": True}),
+        ("wait", {"copy-desk?": True, undo: 1, uneven: 0}),
+        ("follow", f"{address_of(LONGER)}&steps=inverse.B_D_R_F2_B_D~normal.R_B-_D2_R", {}),
+    )
+    tally.equal(
+        "moves, and a trigger",
+        [browser.script(weights, f"#line-list {each}") for each in (".moves", ".trigger")],
+        [["400"], ["700"]],
+    )
+    whole = """const [nets, player] = [part('net-inverse'), part('play-on')].map((each) => each.getBoundingClientRect());
+        return nets.bottom <= player.top && player.bottom <= innerHeight"""
+    browser.walk(
+        tally,
+        "large nets are seen with what plays on them",
+        ("act", "#cube-large", {whole: True}),
+        ("press", Keys.ESCAPE, {}),
+    )
 
 
 def lies(tally: Tally, browser: Browser) -> None:

@@ -80,6 +80,24 @@ def keeps_each(tally: Tally, browser: Browser) -> None:
     )
 
 
+def gives_up_drawn(tally: Tally, browser: Browser) -> None:
+    """A random scramble with which nothing was done isn't left on the desk by who goes back; by who begins another one it is."""
+    three, four = ["1", "2", "3"], ["1", "2", "3", "4"]
+    begin(browser, tally, "a mean")
+    browser.walk(
+        tally,
+        "a random one",
+        ("act", "#desk-new", {}),
+        ("act", "#random", {}),
+        ("comes", CHIPS, four, {}),
+        ("script", "history.back()", {}),
+        ("comes", CHIPS, three, {SHOWN: [], "scramble=": "", "welcome?": True}),
+        ("act", "#random", {}),
+        ("comes", CHIPS, four, {}),
+        ("act", "#desk-new", {CHIPS: four}),
+    )
+
+
 def keeps_what_back_leaves(tally: Tally, browser: Browser) -> None:
     """What is kept belongs to the scramble: the browser's Back undoes a step and takes no line away, and a link adds to what is there."""
     begin(browser, tally, "a mean")

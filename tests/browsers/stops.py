@@ -6,7 +6,7 @@ from tally import Tally
 STOPS = {
     "skip",
     "scramble-edit",
-    "undo-step",
+    "bar-undo",
     "own",
     "switch",
     "copy-joined",

@@ -16,6 +16,8 @@ CHOICES = ("EO F/B", "EO R/L", "EO U/D", "DR U/D", "DR R/L", "DR F/B")
 COVERED = """return seen('.take').map((each) =>
     getComputedStyle(each).color === 'rgba(0, 0, 0, 0)')"""
 
+# the move that is told apart in the line of large nets
+MADE = "#shown-line [aria-current=true]"
 LABELS = "return all('#choices :is(.take, .star)').map((each) => each.ariaLabel)"
 # a turn as it is said; the axes of a case, such as F/B, are none
 TURN = r"\b[UDRLFB](?:2|\b(?!/))(?<!/.)"
@@ -122,6 +124,21 @@ def enlarges(tally: Tally, browser: Browser) -> None:
         return [left, top, width >= innerWidth - 20, height === innerHeight, isOver]"""
     tally.equal("the card fills the window, and nothing stands above it", browser.script(box), [0, 0, True, True, True])
     tally.holds(f"the nets are larger: {small}, {browser.script(width)}", browser.script(width) > 1.5 * small)
+    within = (
+        "const at = document.activeElement; return at === document.body ? '' : at.closest('#cube') ? 'cube' : at.id"
+    )
+    stops = []
+    for _ in range(12):
+        browser.press(Keys.TAB)
+        stops.append(browser.script(within))
+    tally.equal("the Tab key leads to nothing behind them", set(stops) - {""}, {"cube"})
+    browser.walk(
+        tally,
+        "its help closes, and nothing else",
+        ("act", "#cube .help", {"n :popover-open": 1}),
+        ("press", Keys.ESCAPE, {"n :popover-open": 0, "n .large": 1}),
+        ("script", "document.activeElement.blur()", {}),
+    )
     browser.walk(tally, "Escape brings the page back", ("press", Keys.ESCAPE, {"focus": "cube-large"}))
     tally.equal("as it was", (browser.script(width), browser.listed() != []), (small, True))
 
@@ -146,10 +163,15 @@ def shows_a_reduction(tally: Tally, browser: Browser) -> None:
     )
     marked = "return [part('marked-normal').textContent.replace(' \u00b7 ', ''), document.querySelector('#net-normal .net').matches('.marked')]"
     tally.equal("the cube in the end", browser.script(marked), [f"DR F/B: {cases[4]}", False])
+    moves = ["", *first.split(), *second.split()]
+    browser.walk(
+        tally, "the last move is told apart, and no key undoes it", ("press", "u", {"steps": 2, MADE: moves[10:]})
+    )
     for at in (3, 2, 1, 0):
         browser.click("#play-back")
         browser.until("return part('played').textContent.startsWith(arguments[0])", f"{at + 6} of 10")
         tally.equal(f"before move {at + 1} of the DR", browser.script(marked), [f"DR F/B: {cases[at]}", True])
+        tally.equal("the move that was made", browser.look(MADE), [moves[at + 6]])
     browser.click("#play-back")
     browser.until("return part('played').textContent.startsWith('5 of 10')")
     tally.holds("and before the last of the EO", browser.script(marked)[0].startswith("EO U/D: "))

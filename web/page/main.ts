@@ -1,5 +1,4 @@
-// Starts the page: the worker's script and the engine's module stand in the page itself, packed by gzip. The module is
-// compiled once for all workers.
+// Starts the page: the worker's script and the module, compiled once for all workers, stand in it, packed by gzip.
 import { compiled } from "../module/engine/source.js";
 import { Calls, workersOf } from "./shared/questions.js";
 import { part } from "./shared/element.js";

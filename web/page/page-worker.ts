@@ -63,8 +63,7 @@ function bestOfAxis(
 
 const build = (nissy: Nissy, { step }: { step: Step }) => void nissy.count(step, "");
 
-/** Finds the best of one axis of any scramble: a browser compiles well only what has run, so the first answer that
- * someone waits for would take half as long again. */
+/** Finds the best of any scramble, since a browser compiles well only what has run: so the first answer is sooner. */
 function warmUp(nissy: Nissy, { axis }: { axis: number }, _: unknown, engine: Engine) {
   const question = { scramble: ANY_SCRAMBLE, parts: [], reached: [], slack: 0 };
   bestOfAxis(nissy, { axis, question, most: 12 }, () => {}, engine);

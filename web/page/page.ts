@@ -189,8 +189,9 @@ export class Page {
       const joined = withOthers(this.#state.kept, kept);
       this.#change({ ...(parts.length > 0 && { parts }), kept: joined.kept }, { isStep: !isNew });
       tell(part("alert"), whyUnread(unread) || joined.why);
-      this.#scramble.tellDoubt(doubt);
-      if (doubt !== null) this.#line.tellDoubt(doubted, wordsOfDoubt(doubt, fmc.text));
+      // once, where it can be mended
+      if (doubt === null || doubted < 0) this.#scramble.tellDoubt(doubt);
+      else this.#line.doubt(doubted, wordsOfDoubt(doubt, fmc.text));
     } catch (fault) {
       if (turn === this.#turn && !(fault instanceof Stopped)) tell(part("alert"), unanswered(fault));
     }

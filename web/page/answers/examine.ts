@@ -14,8 +14,7 @@ import type { Facts } from "../../module/shared/facts.js";
 import type { Nissy } from "../../module/nissy.js";
 
 export type View = { letters: string; facts: Facts };
-/** `total`: the fewest moves in all with a shortest solution, once they are merged, Infinity if there is none;
- * `best`: how many make that. */
+/** `total`: the fewest moves in all with a shortest solution, Infinity if there is none; `best`: how many make that. */
 export type Counted = Count & { total: number; best: number };
 export type Offer = { step: OfferedStep; normal: Counted; inverse: Counted };
 /** What is known of a line after each beginning, from none of its parts to all; `turns`: of each part; `passed`: the
@@ -149,8 +148,7 @@ export function walkKept(
   });
 }
 
-/** How many of the shortest reductions there are on each side alone after some steps, null for none, and the cases that
- * one of them passes. */
+/** How many of the shortest reductions each side alone has after some steps, or null, and the cases that one passes. */
 export type After = Record<Side, number | null> & { passed: string[] };
 
 export function afterRow(

@@ -16,8 +16,7 @@ const GROWTH_OF_MOVE = 20;
 /** How many there are; about so many if they aren't all `counted`. */
 export type Size = { count: number; counted: boolean };
 
-/** How many there are of each length, up to so many moves more than the shortest have.
- * @param countOf null if they are too many to be counted */
+/** How many there are of each length, up to so many moves more than the shortest. @param countOf null if too many */
 function countsUpTo(slack: number, countOf: (length: number) => number | null): number[] {
   const counts: number[] = [];
   for (let longest = LONGEST; counts.length <= longest;) {

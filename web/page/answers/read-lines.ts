@@ -25,8 +25,7 @@ function runsOf(text: string, side: Side): { side: Side; moves: string }[] {
   );
 }
 
-/** A scramble by its face turns, whether turns of the whole cube were left out, and as it was typed, if what follows
- * names the faces so. */
+/** A scramble by its face turns, whether turns of the whole cube were left out, and as it is copied. */
 export type ReadScramble = { line: string; isTurned: boolean; written: string };
 
 export function readScramble(nissy: Nissy, text: string): ReadScramble {

@@ -223,9 +223,8 @@ export class BestContinuations {
     (takeNamed(this.#body, first.key) ?? part("best-heading")).focus({ preventScroll: true });
   }
 
-  /** Finds what is asked for. The shortest are shown first, and stay until all are found.
-   * @param known what was found before: of fewer moves more, or its first rows
-   * @param isWhole whether all rows of that are asked for */
+  /** Finds what is asked for. The shortest are shown first, and stay until all are found. @param known what was found
+   * before: of fewer moves more, or its first rows. @param isWhole whether all rows of that are asked for */
   async #find(question: Question, known: Further | null, isWhole = false) {
     const { slack: wanted } = isWhole && known ? known : question;
     const isStill = () => question === this.#question;

@@ -41,6 +41,10 @@ function goalsOf(walk: Walk): string[] {
   return [...walk.parts.flatMap((part, at) => singleMoves([part]).map(() => goalOf(at))), last];
 }
 
+/** Each move in an element of its own. */
+const moveByMove = (moves: string) => moves.split(/([^ ()]+)/).map((word, at) =>
+  (at % 2 === 0 ? word : element("span", { class: "move" }, word)));
+
 type Frame = { move: string; views: Record<Side, View> };
 
 export class Nets {
@@ -70,7 +74,7 @@ export class Nets {
       this.#tellWhy();
     });
     part("cube-large").addEventListener("click", () => this.#enlarge(!part("cube").matches(".large")));
-    part("cube").addEventListener("keydown", (event) => this.#typed(event));
+    document.addEventListener("keydown", (event) => this.#typed(event));
     const kinds = ["EO", "DR"].flatMap((kind) => AXES.map((axis) => `${kind} ${axisName(axis)}`));
     this.#choice.append(...kinds.map((kind) => element("option", { value: kind }, kind)));
     this.#choice.addEventListener("change", () => this.#draw());
@@ -100,7 +104,7 @@ export class Nets {
     const count = this.#goals.length - 1;
     [this.#count, this.#frame] = [count, count];
     part("shown-line").replaceChildren(...walk.parts.flatMap((each, at) =>
-      [...withCases(bracketed([each]), walk.passed[at]), " "]));
+      [...withCases(bracketed([each]), walk.passed[at], moveByMove), " "]));
     [this.#ask, this.#frames] = [ask, null];
     part("cube").hidden = false;
     part("player").hidden = count === 0;
@@ -129,11 +133,10 @@ export class Nets {
   #enlarge(isLarge: boolean) {
     part("cube").classList.toggle("large", isLarge);
     part("cube-large").textContent = isLarge ? "Smaller" : "Larger";
-    part("cube-large").setAttribute("aria-pressed", String(isLarge));
   }
 
   #typed(event: KeyboardEvent) {
-    if (event.key !== "Escape" || !part("cube").matches(".large")) return;
+    if (event.key !== "Escape" || !part("cube").matches(".large") || document.querySelector(":popover-open")) return;
     // what else it closes is behind the nets
     event.stopPropagation();
     this.#enlarge(false);
@@ -204,6 +207,11 @@ export class Nets {
     }
     const move = this.#frames?.[this.#frame].move;
     part("played").textContent = `${this.#frame} of ${this.#count}${move ? `: ${move}` : ""}`;
+    // it keeps the focus, for who goes to an end by keys
+    part("play-back").setAttribute("aria-disabled", String(this.#frame === 0));
+    part("play-on").setAttribute("aria-disabled", String(this.#frame === this.#count));
+    part("shown-line").querySelectorAll(".move").forEach((each, at) =>
+      each.setAttribute("aria-current", String(at === this.#frame - 1)));
     this.#tellWhy();
   }
 

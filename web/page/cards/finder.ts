@@ -7,8 +7,7 @@ import type { Calls } from "../shared/questions.js";
 export type Next = {
   step: Step; part: Part; length: number; marks: string; case: string; lengths: Record<Side, number | null>;
 };
-/** `twins`: their last turns; `passed`: of a reduction the case before each move; `key`: what the row is known by;
- * `rank`: what rows are put in order by. */
+/** `twins`: their last turns; `passed`: of a reduction the case before each move; `rank`: what puts rows in order. */
 export type Row = {
   total: number;
   part: Part;

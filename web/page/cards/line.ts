@@ -77,6 +77,7 @@ export class LineSoFar {
   /** the elements that say of each step what it reaches and how long it is, also if a field stands in their place */
   #words: Record<"moves" | "reaches" | "lost" | "count" | "otherwise" | "doubt", PageElement>[] = [];
   #side: Side = "normal";
+  #doubt: { index: number; words: string } | null = null;
 
   constructor(private readonly calls: Calls, private readonly reader: Reader, private readonly acts: LineActs) {
     part("own-form").addEventListener("submit", (event) => {
@@ -116,7 +117,7 @@ export class LineSoFar {
   /** Shows the parts at once; what the engine says of them comes by `describe`. */
   show(parts: Part[]) {
     this.#reached = this.#wanted ?? keptOf(this.#reached, this.#parts, parts);
-    this.#wanted = null;
+    [this.#wanted, this.#doubt] = [null, null];
     this.#parts = parts;
     this.#words = parts.map((each) => ({
       moves: element("span", { class: "moves" }, bracketed([each])),
@@ -153,13 +154,16 @@ export class LineSoFar {
       tell(lost, missed.length === 0 ? "" : `no longer ${listed(missed)}`);
       if (missed.length === 0 || fresh.length > 0) this.#reached[index] = fresh;
     });
+    // what reaches something with each step is meant as it is read
+    const isRead = this.#words.every((_, index) => newlyReached(walk, index).length > 0);
+    if (this.#doubt && !isRead) tell(this.#words[this.#doubt.index].doubt, this.#doubt.words);
     part("set-ups").replaceChildren(...setUps(walk.now.lines));
     tell(part("finished"), endOf(walk));
   }
 
-  /** Says of a step that was read of a text what makes one doubt it. */
-  tellDoubt(index: number, words: string) {
-    if (index >= 0) tell(this.#words[index].doubt, words);
+  /** Takes what makes one doubt a step that was read of a text. */
+  doubt(index: number, words: string) {
+    this.#doubt = { index, words };
   }
 
   /** What a step reached before it or an earlier one was changed, and what doesn't hold then, nor in the end. */

@@ -71,6 +71,8 @@ export class ScrambleField {
       const isAll = value.trim() !== "" && selectionStart === 0 && selectionEnd === value.length;
       if (isAll && inputType.startsWith("insert") && inputType !== "insertFromPaste") this.#isEmptied = true;
     });
+    // what was typed just before another address is opened doesn't come over it
+    addEventListener("hashchange", () => clearTimeout(this.#timer));
     part("random").addEventListener("click", () => this.#draw());
     part("scramble-edit").addEventListener("click", () => this.focus());
     // not as soon as the focus goes: what is pressed would move away under the finger

@@ -9,12 +9,10 @@ import { tellAt } from "../shared/view.js";
 
 const NOT_KEPT = "This browser keeps nothing of what is done here: take it along by Copy all.";
 
-/** What an address leads to. `place`: where one was, if the address says nothing of it; `written`: where the scramble
- * stands in a text that wasn't opened yet. */
+/** `place`: where one was, if the address doesn't say; `written`: where it stands in a text, if it isn't opened yet. */
 type Arrived = { state: State; place: Place | null; written: Sheet["written"] };
 
-/** How a state is kept: whether Back leads to what was before, whether a new scramble came by chance, and whether it is
- * a draft, which gets no sheet. */
+/** Whether Back leads to what was before, and whether a scramble came by chance, or is a draft, which has no sheet. */
 export type Keeping = { isStep: boolean; isDrawn?: boolean; isDraft?: boolean };
 
 function chipOf(sheet: Sheet, at: number, isShown: boolean) {

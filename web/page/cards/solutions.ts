@@ -79,8 +79,7 @@ export class SolutionList {
     this.calls.end();
   }
 
-  /** Looks for a list, or shows that none is open; one that is shown already stays. Says whether it is shown in the
-   * end. @param name what tells it from others */
+  /** Looks for a list, or shows that none is open. @param name tells it from others @returns whether it is shown */
   async show(name: string, list: List | null, line: { scramble: string; parts: Part[] } | null) {
     if (name === this.#name) return false;
     this.#name = name;

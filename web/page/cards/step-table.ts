@@ -11,8 +11,7 @@ import type { List } from "../state/address.js";
 type Told = Examined | Unexamined;
 export type Cube = { facts: Facts; made: number; reached: string[] };
 
-/** The least length, what that makes in all, if moves were made before, and how many solutions there are, or how many
- * of them make that, with a word that is said and not shown. */
+/** The least length, what that makes in all after moves, how many solutions make that, and a word that is only said. */
 function wordsOfRow({ length, total, solutions, best }: Counted, made: number): string[] {
   if (length === null) return ["–", "", "none within 20 moves", ""];
   const [some, all] = [best, solutions].map((each) => each.toLocaleString("en"));

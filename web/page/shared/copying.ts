@@ -59,8 +59,7 @@ export async function copy(text: string, button: HTMLElement) {
   }
 }
 
-/** How the cube in one's hands is set up on each side, from solved: premoves, scramble and moves, each to be copied.
- * @param of what is there, as it is said after the names of the buttons */
+/** How the cube in one's hands is set up on each side, from solved. @param of what, as it is said after the buttons */
 export const setUps = (lines: Part, of = "") => SIDES.flatMap((side) => [
   element("dt", {}, `Set-up of the ${side} side, from solved`),
   element("dd", {}, element("output", { class: "moves" }, lines[side]), button("Copy", {

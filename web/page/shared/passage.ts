@@ -21,15 +21,15 @@ export const signsOfCases = (cases: string[]) =>
   placesOfCases(cases).reduce((sum, at) => sum + SIGN_OF_CASE * cases[at].length + 1, 0);
 
 /** Moves with the cases before them. The style writes these, so that the text is the moves.
- * @param cases before each of them; none of another step */
-export function withCases(text: string, cases: string[]): (Node | string)[] {
+ * @param cases before each of them; none of another step. @param shown how moves are */
+export function withCases(text: string, cases: string[], shown = (moves: string): (Node | string)[] => [moves]) {
   const [words, start] = [text.split(" "), startOfTrigger(cases)];
-  if (cases.length !== words.length) return [text];
+  if (cases.length !== words.length) return shown(text);
   const places = placesOfCases(cases);
   return places.flatMap((at, count) => [
     ...(count === 0 ? [] : [" "]),
     element("span", { class: at >= start ? "passed trigger" : "passed", "data-case": cases[at] },
-      words.slice(at, places[count + 1]).join(" ")),
+      ...shown(words.slice(at, places[count + 1]).join(" "))),
   ]);
 }
 

@@ -10,8 +10,7 @@ import type { Request } from "../../module/calls/requests.js";
 
 const UNREADABLE = "An answer of it can't be read.";
 
-/** What starts workers of the page, by the text of their script. One is started early, since that takes a while, and
- * others once what is known is shown. */
+/** What starts workers by the text of their script: one early, since that takes a while, others once all is shown. */
 export function workersOf(script: string): () => Promise<Worker> {
   const start = () => {
     const address = URL.createObjectURL(new Blob([script], { type: "text/javascript" }));

@@ -1,5 +1,4 @@
-// Twins: solutions of one step that differ in the direction of their last quarter turns alone. The same holds after
-// each, and all have one case.
+// Twins: solutions of a step that differ only in the direction of their last quarter turns; the same holds after each.
 import { SIDES, type Part } from "./offered-steps.js";
 import type { BestStep } from "../../module/shared/ways.js";
 import type { Facts } from "../../module/shared/facts.js";

@@ -18,8 +18,7 @@ export function showBeginning(state: State) {
 
 export const waitsForAnswers = () => document.querySelector('[aria-busy="true"]:not([hidden])') !== null;
 
-/** Hides what an address shows until it is known, so that nothing is seen to move; what takes long is seen before.
- * @param state that is awaited, or null if it is there */
+/** Hides what an address shows until it is known, so that nothing is seen to move. @param state null if it is there */
 export function awaitAnswer(state: State | null) {
   // what was seen once stays seen, and keeps the focus
   if (state !== null && !document.body.matches(".awaited, .begun")) return;
@@ -68,12 +67,13 @@ function scrollToNext(isFinished: boolean) {
   if (isFinished) part("copy-fmc").scrollIntoView({ block: "nearest" });
 }
 
-/** Has what follows a step come into view and have the focus. @param isFinished whether no step follows */
+/** Has what follows a step come into view and have the focus: the line, which is said to end so, if no step follows. */
 export function showStart(isFinished: boolean, table: { focus: () => void }) {
   // first, since the page is laid out for it, and the focus changes the marks
   scrollToNext(isFinished);
-  if (isFinished) part("copy-fmc").focus({ preventScroll: true });
-  else table.focus();
+  if (!isFinished) return table.focus();
+  part("line-heading").focus({ preventScroll: true });
+  announce(part("finished").textContent);
 }
 
 const KEY = "nissy-theme";
@@ -130,7 +130,7 @@ export function listenToKeys(acts: Record<string, () => void>) {
     // a field has its keys for itself, but for the one that closes its list
     if (isField && (event.key !== "Escape" || !part("solutions").contains(event.target))) return;
     // Escape closes help before it closes anything else
-    if (!Object.hasOwn(acts, event.key) || document.querySelector(":popover-open, dialog[open]")) return;
+    if (!Object.hasOwn(acts, event.key) || document.querySelector(":popover-open, dialog[open], .large")) return;
     event.preventDefault();
     acts[event.key]();
   });

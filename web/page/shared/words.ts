@@ -109,7 +109,9 @@ function marked(text: string, place: number) {
 const WORDS_OF_DOUBTS: Record<string, (word: string) => string> = {
   "another scramble": () => "a whole scramble begins here, and more follows it",
   "several solutions": () => "of several solutions none is said to be the one that counts",
-  side: (word) => `“${word}” names a side, and its moves may belong on the other one`,
+  side: (word) => (/^pre-?mov/i.test(word)
+    ? "premoves stand before the scramble, but are read after it: premoves R U are (U' R') in brackets"
+    : `“${word}” names a side, and its moves may belong on the other one`),
   letters: (word) => `“${word}” is read as moves`,
   "small letters": (word) => `“${word}” is read as a wide turn`,
   comment: () => "moves stand in a comment, and are left out",

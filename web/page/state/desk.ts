@@ -81,14 +81,15 @@ export class Desk {
     this.isKept = store(DESK, this.#text);
   }
 
-  /** Turns to the sheet of a scramble, if it has one. @param id of the sheet that is meant, or 0 */
-  turnTo(scramble: string, id = 0): Sheet | null {
+  /** Turns to the sheet of a scramble, if it has one. @param id of the sheet that the history has, null if it is new */
+  turnTo(scramble: string, id: number | null = null): Sheet | null {
     this.readAgain();
     const sheet = this.#sheets.find((each) => each.id === id) ?? sheetOf(this.#sheets, scramble);
     const before = this.shown;
     this.#at = sheet?.id ?? 0;
     const isBare = before?.isDrawn && before !== sheet && !hasLines(stateOfSheet(before));
-    if (isBare && scramble.trim() !== "") this.#change((sheets) => sheets.filter((each) => each.id !== before.id));
+    const isLeft = scramble.trim() !== "" || id !== null;
+    if (isBare && isLeft) this.#change((sheets) => sheets.filter((each) => each.id !== before.id));
     return sheet;
   }
 

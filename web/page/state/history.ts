@@ -19,10 +19,10 @@ export function placeNow(): Place {
   return { key, scroll: scrollY };
 }
 
-/** The sheet that the entry of the history is of, or 0. */
-export function sheetOfEntry(): number {
+/** The sheet that the entry of the history is of, 0 if that is of none, or null if it is new. */
+export function sheetOfEntry(): number | null {
   const { sheet } = fieldsOf(history.state);
-  return typeof sheet === "number" ? sheet : 0;
+  return typeof sheet === "number" ? sheet : null;
 }
 
 /** Keeps something more in the entry that is shown. */
@@ -56,8 +56,7 @@ function writeAddress(address: string, isStep: boolean, sheet: number) {
   if (!isWritten()) writing = setTimeout(writeAddress, AGAIN_AFTER, address, isStep, sheet);
 }
 
-/** Puts a state into the address if that has room for it, since a longer one isn't read.
- * @param isStep whether Back leads to what was before */
+/** Puts a state into the address if that has room for it. @param isStep whether Back leads to what was before */
 export function writeState(state: State, isStep: boolean, sheet: number) {
   const isLong = !fitsAddress(state);
   if (isLong || part("alert").textContent === NOT_IN_ADDRESS) tell(part("alert"), isLong ? NOT_IN_ADDRESS : "");

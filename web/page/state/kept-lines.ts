@@ -19,8 +19,7 @@ export function withOthers(candidates: Candidate[], others: Candidate[]) {
   return { kept: [...all.values()].slice(0, MOST_CANDIDATES), why: all.size > MOST_CANDIDATES ? MOST_ARE_KEPT : "" };
 }
 
-/** One state of two of a scramble, in which nothing is lost: the line of the second one if it has any, the line of the
- * first one is kept then, and so is what is kept in either. */
+/** One state of two of a scramble, in which nothing is lost: the line of the second one, if it has any, is shown. */
 export function joinedStates(own: State, other: State): State {
   const shown = other.parts.length > 0 ? other : own;
   const isLeft = own.parts.length > 0 && bracketed(own.parts) !== bracketed(shown.parts);
