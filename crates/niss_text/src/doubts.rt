@@ -143,6 +143,7 @@ fn doubt_of_step(text: &[u8], told: &TextLine, slashes: usize, has_solution: boo
     requires slashes { (told.now.comment ≤ slashes) × (slashes ≤ told.now.end) }
     ensures place { (told.now.begin ≤ result.1) × (result.1 ≤ told.now.end) }
     ensures others { (number_of result.0 ≡ 4 → ⊥) × (number_of result.0 ≡ 5 → ⊥) }
+    ensures nowhere { result.0 ≡ Nothing → result.1 ≡ told.now.end }
     ensures unmarked { result.0 ≡ Nothing → HasNone text.now Marked (told.now.moves + 1) told.now.comment }
 {
     if has_three_moves(&text[slashes..told.end]) {
@@ -177,6 +178,7 @@ fn doubt_of_moves(text: &[u8], told: &TextLine, line: &Line, has_solution: bool)
     requires same { told.now.begin + line.now.length ≡ told.now.end }
     requires comment { told.now.begin + line.now.comment ≡ told.now.comment }
     ensures place { (told.now.begin ≤ result.1) × (result.1 ≤ told.now.end) }
+    ensures nowhere { result.0 ≡ Nothing → result.1 ≡ told.now.end }
     ensures kind { result.0 ≡ SmallLetters → told.now.kind ≡ 2 }
     ensures small { result.0 ≡ SmallLetters → sees text.now Small result.1 ≡ true }
     ensures letters { result.0 ≡ Letters → sees text.now Joined result.1 ≡ true }
@@ -218,6 +220,7 @@ fn doubt_of(text: &[u8], told: &TextLine, line: &Line, has_solution: bool) -> (D
     requires same { told.now.begin + line.now.length ≡ told.now.end }
     requires comment { told.now.begin + line.now.comment ≡ told.now.comment }
     ensures place { (told.now.begin ≤ result.1) × (result.1 ≤ told.now.end) }
+    ensures nowhere { result.0 ≡ Nothing → result.1 ≡ told.now.end }
     ensures small { result.0 ≡ SmallLetters → (told.now.kind ≡ 2) × (sees text.now Small result.1 ≡ true) }
     ensures letters { result.0 ≡ Letters → sees text.now Joined result.1 ≡ true }
     ensures scramble { result.0 ≡ Nothing → told.now.kind ≡ 2 → IsAsWritten text.now told.now.moves told.now.comment }

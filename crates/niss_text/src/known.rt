@@ -1,7 +1,7 @@
 //! A text that has only solutions, of scrambles that are known: which part of it is of which scramble, and what its
 //! lines are after that scramble.
-ghost use Rattle.std.specs.Prelude.{◌≡◌, ◌≤◌, ◌<◌, ◌+◌, ◌⊎◌, length, drop, set, take};
-ghost use Rattle.niss_text.specs.Known.{AreKnown};
+ghost use Rattle.std.specs.Prelude.{◌≡◌, ◌≤◌, ◌<◌, ◌+◌, ◌⊎◌, ℕ, length, drop, set, take};
+ghost use Rattle.niss_text.specs.Known.{AreKnown, HaveLines};
 ghost use Rattle.niss_text.specs.Lines.{Takes};
 
 use crate::attempts::{Progress, put_attempts, put_solution};
@@ -77,7 +77,7 @@ impl Reading {
     }
 
     /// With one more part.
-    #[tactic(auto, using(crate::proofs::LineLemmas::takes_further))]
+    #[tactic(auto, using(crate::proofs::LineLemmas::takes_further, crate::proofs::KnownLemmas::lines_next))]
     fn with(
         self,
         text: &[u8],
@@ -92,6 +92,8 @@ impl Reading {
         ensures more { (self.parts ≤ result.parts) × (self.read.lines ≤ result.read.lines) }
         ensures takes { Takes text.now 0 (take self.read.lines lines.old) self.read.at → result.read.lines ≤ length lines.new →
             Takes text.now 0 (take result.read.lines lines.new) result.read.at }
+        ensures lines { HaveLines 0 (take self.parts parts.old) self.read.lines → result.parts ≤ length parts.new →
+            HaveLines 0 (take result.parts parts.new) result.read.lines }
         ensures behind_parts { drop result.parts parts.new ≡ drop result.parts parts.old }
     {
         // the parts follow one another
@@ -135,6 +137,7 @@ fn read_parts(
     ensures at { result.read.at ≤ length text.now }
     ensures few { result.parts ≤ count }
     ensures takes { result.read.lines ≤ length lines.new → Takes text.now 0 (take result.read.lines lines.new) result.read.at }
+    ensures lines { result.parts ≤ length parts.new → HaveLines 0 (take result.parts parts.new) result.read.lines }
     ensures behind_parts { drop result.parts parts.new ≡ drop result.parts parts.old }
 {
     let mut seen = Reading::nothing();
@@ -173,7 +176,8 @@ fn scramble_of(part: &KnownPart, place: Option<usize>, counts: &[u64]) -> usize
 
 /// Tells of each part which scramble it is of, of as many as there are counts.
 fn assign(parts: &mut [KnownPart], is_in_order: bool, counts: &mut [u64])
-    ensures { AreKnown (length counts.old) parts.new }
+    ensures known { AreKnown (length counts.old) parts.new }
+    ensures lines { (to : ℕ) → HaveLines 0 parts.old to → HaveLines 0 parts.new to }
 {
     count_numbers(parts, counts);
     let mut at = 0;
@@ -201,6 +205,7 @@ pub fn known_lines(
     ensures room { length text.now ≤ length lines.old → length text.now ≤ length parts.old → result.status ≡ 0 }
     ensures takes { result.status ≡ 0 → Takes text.now 0 (take result.lines lines.new) (length text.now) }
     ensures known { result.status ≡ 0 → AreKnown (length counts.old) (take result.parts parts.new) }
+    ensures lines { result.status ≡ 0 → HaveLines 0 (take result.parts parts.new) result.lines }
     ensures behind { drop result.parts parts.new ≡ drop result.parts parts.old }
 {
     let all = put_attempts(text, text.len(), Progress::nothing(), lines);
