@@ -48,23 +48,25 @@ covers_next text lines count now size whole line room far is told end unbroken a
     (subst (λ (n : ℕ). Covers text 0 (take count lines ++ line ∷ []) n) there (covers_more text 0 (take count lines) now line size far is told end broken))
 
 takes_more : (text : List ℕ) (from : ℕ) (lines : List TextLine) (to : ℕ) (line : TextLine) (size : ℕ) → Takes text from lines to → IsLine to line → IsDoubted text line →
-    line.end ≡ to + size → IsUnbroken text to size → Takes text from (lines ++ line ∷ []) (line.end + end_size text line.end)
+    line.end ≡ to + size → IsUnbroken text to size → IsEnd text line.end → Takes text from (lines ++ line ∷ []) (line.end + end_size text line.end)
 unfolding Takes
-takes_more text from [] to line size far is told end whole =
-    subst (λ (at : ℕ). (from ≤ at) × (IsLine at line × (IsDoubted text line × ((n : ℕ) × (line.end ≡ at + n) × IsUnbroken text at n
-    × (line.end + end_size text line.end ≤ line.end + end_size text line.end))))) (sym is.begins) (far, (is, (told, (size, end, whole, omega arith))))
-takes_more text from (l ∷ ls) to line size far is told end whole =
-    (far.0, (far.1.0, (far.1.1.0, (far.1.1.1.0, far.1.1.1.1, far.1.1.1.2, takes_more text (l.end + end_size text l.end) ls to line size far.1.1.1.3 is told end whole))))
+takes_more text from [] to line size far is told end whole ended =
+    subst (λ (at : ℕ). (from ≤ at) × (IsLine at line × (IsDoubted text line × ((n : ℕ) × (line.end ≡ at + n) × IsUnbroken text at n × IsEnd text line.end
+    × (line.end + end_size text line.end ≤ line.end + end_size text line.end))))) (sym is.begins) (far, (is, (told, (size, end, whole, ended, omega arith))))
+takes_more text from (l ∷ ls) to line size far is told end whole ended =
+    (far.0, (far.1.0, (far.1.1.0, (far.1.1.1.0, far.1.1.1.1, far.1.1.1.2, far.1.1.1.3, takes_more text (l.end + end_size text l.end) ls to line size far.1.1.1.4 is told end whole ended))))
 
 -- the same in memory
 pub takes_next : (text : List ℕ) (lines : List TextLine) (count now size whole : ℕ) (line : TextLine) → count < length lines →
     Takes text 0 (take count lines) now → IsLine now line → IsDoubted text line → line.end ≡ now + size → IsUnbroken (drop now text) 0 size →
-    whole ≡ size + end_size (drop now text) size → Takes text 0 (take (count + 1) (set lines count line)) (now + whole)
-takes_next text lines count now size whole line room far is told end unbroken all =
+    whole ≡ size + end_size (drop now text) size → IsEnd (drop now text) size → Takes text 0 (take (count + 1) (set lines count line)) (now + whole)
+takes_next text lines count now size whole line room far is told end unbroken all ends =
     let there : line.end + end_size text line.end ≡ now + whole = line_ends text now size whole line end all in
     let broken : IsUnbroken text now size = λ k lt. ap (λ b. ends_line b) (sym (get_or-drop now text k 0)) ∙ ap (λ n. ends_line (get_or (drop now text) n 0)) (sym (zero-add k)) ∙ unbroken k lt in
+    let ended : IsEnd text (now + size) = λ lt. ap (λ b. ends_line b) (sym (get_or-drop now text size 0)) ∙ ends (omega (arith, lt, length-drop now text)) in
     subst (λ (ls : List TextLine). Takes text 0 ls (now + whole)) (sym (take_more_set lines count line room))
-    (subst (λ (n : ℕ). Takes text 0 (take count lines ++ line ∷ []) n) there (takes_more text 0 (take count lines) now line size far is told end broken))
+    (subst (λ (n : ℕ). Takes text 0 (take count lines ++ line ∷ []) n) there (takes_more text 0 (take count lines) now line size far is told end broken
+    (subst (λ (n : ℕ). IsEnd text n) (sym end) ended)))
 
 pub takes_none : (text : List ℕ) → Takes text 0 [] 0
 unfolding Takes
@@ -75,7 +77,7 @@ pub takes_further : (text : List ℕ) (from : ℕ) (lines : List TextLine) (to m
 unfolding Takes
 takes_further text from [] to more far le = omega (arith, far, le)
 takes_further text from (l ∷ ls) to more far le =
-    (far.0, (far.1.0, (far.1.1.0, (far.1.1.1.0, far.1.1.1.1, far.1.1.1.2, takes_further text (l.end + end_size text l.end) ls to more far.1.1.1.3 le))))
+    (far.0, (far.1.0, (far.1.1.0, (far.1.1.1.0, far.1.1.1.1, far.1.1.1.2, far.1.1.1.3, takes_further text (l.end + end_size text l.end) ls to more far.1.1.1.4 le))))
 
 pub counts_none : (text : List ℕ) (at : ℕ) → Counts text at 0 at
 unfolding Counts

@@ -43,9 +43,10 @@ Covers text from [] to = from ≡ to
 Covers text from (line ∷ lines) to =
     IsLine from line × (IsDoubted text line × ((size : ℕ) × (line.end ≡ from + size) × IsUnbroken text from size × Covers text (line.end + end_size text line.end) lines to))
 
--- Some of the lines of a text from one place to another, in order; others may stand between them.
+-- Some of the lines of a text from one place to another, in order: each from some place in its line to what ends that.
+-- Others may stand between them.
 unfoldable pub Takes : List ℕ → ℕ → List TextLine → ℕ → Type 0
 Takes text from [] to = from ≤ to
 Takes text from (line ∷ lines) to =
     (from ≤ line.begin) × (IsLine line.begin line × (IsDoubted text line × ((size : ℕ) × (line.end ≡ line.begin + size) × IsUnbroken text line.begin size
-    × Takes text (line.end + end_size text line.end) lines to)))
+    × IsEnd text line.end × Takes text (line.end + end_size text line.end) lines to)))

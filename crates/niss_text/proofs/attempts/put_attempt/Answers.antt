@@ -37,7 +37,7 @@ loop-at-preserved c =
           subst (λ (n : ℕ). Takes text 0 (take (count + 1) c.put_line.new.lines) n) there
           (subst (λ (ls : List TextLine). Takes text 0 (take (count + 1) ls) (now + whole)) (sym e)
           (takes_next text lines count now size whole told (omega (arith, room, same)) (inv.takes begun (omega (arith, room, same)))
-          begins c.judged-told.ensures.doubt (c.judged-told.ensures.ends ∙ c.told_line-told.ensures.ends) unbroken all));
+          begins c.judged-told.ensures.doubt (c.judged-told.ensures.ends ∙ c.told_line-told.ensures.ends) unbroken all ended));
       counts = λ begun. subst (λ (n : ℕ). Counts text 0 (count + 1) n) there
           (counts_next text count now size whole (inv.counts begun) (omega (arith, some, c.cut_line-whole.ensures.fits, ap length rest, length-drop now text)) unbroken ended all);
       behind = ap (λ v. drop (count + 1) v) e ∙ same_behind_line lines c.args.lines.now count told inv.behind;
