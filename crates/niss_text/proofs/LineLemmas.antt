@@ -1,11 +1,12 @@
 -- One more line of a text.
-use Rattle.std.proofs.Common.{◌≡◌, ℕ, zero, suc, ◌+◌, ◌-◌, ◌<◌, ◌≤◌, List, [], ◌∷◌, ◌++◌, length, take, drop, set, get_or, zero-add, refl, sym, subst, ap, ◌∙◌, arith}
+use Rattle.std.proofs.Common.{◌≡◌, ℕ, zero, suc, ◌+◌, ◌-◌, ◌<◌, ◌≤◌, ◌⊎◌, inl, inr, List, [], ◌∷◌, ◌++◌, length, take, drop, set, get_or, zero-add, refl, sym, subst, ap, ◌∙◌, arith}
+use Rattle.std.proofs.lemmas.Bool.{cases_lt}
 use Rattle.std.proofs.lemmas.List.{take_more_set, drop-set-lt, drop-drop, get_or-drop, length-drop}
 use Rattle.niss_text.specs.declared.text_line.TextLine.{TextLine}
 use Rattle.niss_text.specs.Signs.{ends_line}
 use Rattle.niss_text.specs.Doubts.{IsDoubted}
 use Rattle.niss_text.specs.Lines.{IsLine, IsUnbroken, IsEnd, end_of, end_size}
-unfoldable use Rattle.niss_text.specs.Lines.{Covers, Counts, Takes}
+unfoldable use Rattle.niss_text.specs.Lines.{Covers, Counts, Takes, AreNumbered}
 
 pub covers_none : (text : List ℕ) (at : ℕ) → Covers text at [] at
 unfolding Covers
@@ -121,3 +122,33 @@ more_behind lines first count more le far =
     let split : count + (more - count) ≡ more = omega arith in
     ap (λ n. drop n lines) (sym split) ∙ sym (drop-drop (more - count) count lines) ∙ ap (λ v. drop (more - count) v) far
     ∙ drop-drop (more - count) count first ∙ ap (λ n. drop n first) split
+
+pub numbered_none : AreNumbered 0 [] 0
+unfolding AreNumbered
+numbered_none = refl
+
+-- one more line, of the next attempt
+numbered_first : (seen : ℕ) (lines : List TextLine) (all : ℕ) (line : TextLine) → AreNumbered seen lines all → line.attempt ≡ all →
+    AreNumbered seen (lines ++ line ∷ []) (all + 1)
+unfolding AreNumbered
+numbered_first seen [] all line same is = inl (is ∙ sym same, ap (λ n. n + 1) same)
+numbered_first seen (l ∷ ls) all line (inl far) is = inl (far.0, numbered_first (seen + 1) ls all line far.1 is)
+numbered_first seen (l ∷ ls) all line (inr far) is = inr (far.0, numbered_first seen ls all line far.1 is)
+
+-- one more line of the same attempt
+numbered_same : (seen : ℕ) (lines : List TextLine) (all : ℕ) (line : TextLine) → AreNumbered seen lines all → line.attempt + 1 ≡ all →
+    AreNumbered seen (lines ++ line ∷ []) all
+unfolding AreNumbered
+numbered_same seen [] all line same is = inr (is ∙ sym same, same)
+numbered_same seen (l ∷ ls) all line (inl far) is = inl (far.0, numbered_same (seen + 1) ls all line far.1 is)
+numbered_same seen (l ∷ ls) all line (inr far) is = inr (far.0, numbered_same seen ls all line far.1 is)
+
+-- both in memory, at a place of an attempt
+pub numbered_next : (lines : List TextLine) (count all at : ℕ) (line : TextLine) → count < length lines → (at ≡ 0 → AreNumbered 0 (take count lines) all) →
+    (0 < at → AreNumbered 0 (take count lines) (all + 1)) → line.attempt ≡ all → AreNumbered 0 (take (count + 1) (set lines count line)) (all + 1)
+numbered_next lines count all at line room first more is =
+    subst (λ (ls : List TextLine). AreNumbered 0 ls (all + 1)) (sym (take_more_set lines count line room)) (by_place (cases_lt 0 at))
+  where
+    by_place : (0 < at) ⊎ (at ≤ 0) → AreNumbered 0 (take count lines ++ line ∷ []) (all + 1)
+    by_place (inl later) = numbered_same 0 (take count lines) (all + 1) line (more later) (ap (λ n. n + 1) is)
+    by_place (inr here) = numbered_first 0 (take count lines) all line (first (omega (arith, here))) is

@@ -1,5 +1,5 @@
 -- The lines of a text, one after another, and where their parts stand.
-use Rattle.std.specs.Prelude.{◌≡◌, ℕ, zero, suc, ◌==◌, ◌+◌, ◌<◌, ◌≤◌, ◌&&◌, true, false, if◌then◌else◌, List, [], ◌∷◌, length, slice_index}
+use Rattle.std.specs.Prelude.{◌≡◌, ℕ, zero, suc, ◌==◌, ◌+◌, ◌<◌, ◌≤◌, ◌⊎◌, ◌&&◌, true, false, if◌then◌else◌, List, [], ◌∷◌, length, slice_index}
 use Rattle.niss_text.specs.Signs.{ends_line}
 use Rattle.niss_text.specs.Doubts.{IsDoubted}
 use Rattle.niss_text.specs.declared.text_line.TextLine.{TextLine}
@@ -50,3 +50,10 @@ Takes text from [] to = from ≤ to
 Takes text from (line ∷ lines) to =
     (from ≤ line.begin) × (IsLine line.begin line × (IsDoubted text line × ((size : ℕ) × (line.end ≡ line.begin + size) × IsUnbroken text line.begin size
     × IsEnd text line.end × Takes text (line.end + end_size text line.end) lines to)))
+
+-- The attempts of lines are numbered in order, from that many on: a line is of the next one, or of the same as the line
+-- before. After the lines these are so many.
+unfoldable pub AreNumbered : ℕ → List TextLine → ℕ → Type 0
+AreNumbered seen [] all = seen ≡ all
+AreNumbered seen (line ∷ lines) all =
+    ((line.attempt ≡ seen) × AreNumbered (seen + 1) lines all) ⊎ ((line.attempt + 1 ≡ seen) × AreNumbered seen lines all)

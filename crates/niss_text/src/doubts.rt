@@ -269,6 +269,7 @@ pub fn judged(text: &[u8], told: TextLine, line: &Line, has_solution: bool) -> T
     requires comment { told.begin + line.now.comment ≡ told.comment }
     ensures is { IsLine told.begin result }
     ensures ends { result.end ≡ told.end }
+    ensures attempt { result.attempt ≡ told.attempt }
     ensures doubt { IsDoubted text.now result }
 {
     let (doubt, at) = doubt_of(text, &told, line, has_solution);

@@ -2,7 +2,7 @@
 //! lines are after that scramble.
 ghost use Rattle.std.specs.Prelude.{◌≡◌, ◌≤◌, ◌<◌, ◌+◌, ◌⊎◌, ℕ, length, drop, set, take};
 ghost use Rattle.niss_text.specs.Known.{AreKnown, HaveLines};
-ghost use Rattle.niss_text.specs.Lines.{Takes};
+ghost use Rattle.niss_text.specs.Lines.{Counts, Takes};
 
 use crate::attempts::{Progress, put_attempts, put_solution};
 use crate::parts::{Part, first_part, has_head};
@@ -193,7 +193,7 @@ fn assign(parts: &mut [KnownPart], is_in_order: bool, counts: &mut [u64])
 /// A part is of the scramble of its number, if no other one has that; of as many parts as scrambles without any number
 /// each is of the scramble in its place. As many lines and parts as the text has bytes are room enough. What stood in the
 /// counts says nothing, nor what stands there then.
-#[tactic(auto, using(crate::proofs::LineLemmas::takes_further))]
+#[tactic(auto, using(crate::proofs::LineLemmas::takes_further, crate::proofs::LineLemmas::counts_none))]
 pub fn known_lines(
     text: &[u8],
     lines: &mut [TextLine],
@@ -203,6 +203,9 @@ pub fn known_lines(
     ensures few { (result.lines ≤ length text.now) × (result.parts ≤ length text.now) }
     ensures fits { result.status ≡ 0 → (result.lines ≤ length lines.old) × (result.parts ≤ length parts.old) }
     ensures room { length text.now ≤ length lines.old → length text.now ≤ length parts.old → result.status ≡ 0 }
+    ensures told { (result.status ≡ 0) ⊎ (result.status ≡ 4) }
+    ensures counts { result.status ≡ 4 → Counts text.now 0 result.lines (length text.now) }
+    ensures none { result.status ≡ 4 → length lines.old < result.lines → result.parts ≡ 0 }
     ensures takes { result.status ≡ 0 → Takes text.now 0 (take result.lines lines.new) (length text.now) }
     ensures known { result.status ≡ 0 → AreKnown (length counts.old) (take result.parts parts.new) }
     ensures lines { result.status ≡ 0 → HaveLines 0 (take result.parts parts.new) result.lines }
