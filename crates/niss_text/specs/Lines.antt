@@ -4,7 +4,7 @@ use Rattle.niss_text.specs.Signs.{ends_line}
 use Rattle.niss_text.specs.Doubts.{IsDoubted}
 use Rattle.niss_text.specs.declared.text_line.TextLine.{TextLine}
 
--- A line that begins there. Its parts stand in this order, and none overlaps another.
+-- A line that begins there. Its parts stand in this order, and none overlaps another. Only a step is on the inverse.
 pub record IsLine (from : ℕ) (line : TextLine) : Type 0 where
   pub begins : line.begin ≡ from
   pub head : line.begin ≤ line.head_end
@@ -13,6 +13,7 @@ pub record IsLine (from : ℕ) (line : TextLine) : Type 0 where
   pub title : line.label_end ≤ line.moves
   pub moves : line.moves ≤ line.comment
   pub comment : line.comment ≤ line.end
+  pub inverse : (line.is_inverse ≡ 0) ⊎ (line.kind ≡ 3)
 
 -- how many bytes of two end a line: a return and a line feed both, either of them alone, or none
 abbrev pub end_of : ℕ → ℕ → ℕ

@@ -261,6 +261,7 @@ fn doubt_of(text: &[u8], told: &TextLine, line: &Line, has_solution: bool) -> (D
 fn is_inverse(text: &[u8], told: &TextLine) -> bool
     requires line { IsLine told.now.begin told.now }
     requires fits { told.now.end ≤ length text.now }
+    ensures { result ≡ true → told.now.kind ≡ 3 }
 {
     let label = &text[told.label_begin..told.label_end];
     let comment = &text[told.comment..told.end];
