@@ -1,7 +1,7 @@
 //! A text that has only solutions, of scrambles that are known: which part of it is of which scramble, and what its
 //! lines are after that scramble.
-ghost use Rattle.std.specs.Prelude.{◌≡◌, ◌≤◌, ◌<◌, ◌+◌, ◌⊎◌, ℕ, length, drop, set, take};
-ghost use Rattle.niss_text.specs.Known.{AreKnown, HaveLines};
+ghost use Rattle.std.specs.Prelude.{◌≡◌, ◌≤◌, ◌<◌, ◌+◌, ◌⊎◌, ℕ, MatchOption, length, drop, get_or, set, take};
+ghost use Rattle.niss_text.specs.Known.{AreKnown, AreApart, AreCounted, HaveLines};
 ghost use Rattle.niss_text.specs.Lines.{Counts, Takes};
 
 use crate::attempts::{Progress, put_attempts, put_solution};
@@ -153,7 +153,9 @@ fn read_parts(
 }
 
 /// Counts how many parts have the number of each scramble.
-fn count_numbers(parts: &[KnownPart], counts: &mut [u64]) {
+fn count_numbers(parts: &[KnownPart], counts: &mut [u64])
+    ensures { AreCounted parts.now counts.new }
+{
     counts.fill(0);
     for part in parts {
         if part.scramble < counts.len() {
@@ -164,7 +166,9 @@ fn count_numbers(parts: &[KnownPart], counts: &mut [u64]) {
 
 /// Which scramble a part is of: that in its place, or that of its number if no other part has it.
 fn scramble_of(part: &KnownPart, place: Option<usize>, counts: &[u64]) -> usize
-    ensures { (result < length counts.now) ⊎ (result ≡ usize.MAX) }
+    ensures known { (result < length counts.now) ⊎ (result ≡ usize.MAX) }
+    ensures own { (result ≡ usize.MAX) ⊎ MatchOption place
+        ((result < length counts.now) × (get_or counts.now result 0 ≡ 1) × (part.now.scramble ≡ result)) (λ at. result ≡ at) }
 {
     let scramble = place.unwrap_or(part.scramble);
     if scramble < counts.len() && (place.is_some() || counts[scramble] == 1) {
@@ -178,6 +182,7 @@ fn scramble_of(part: &KnownPart, place: Option<usize>, counts: &[u64]) -> usize
 fn assign(parts: &mut [KnownPart], is_in_order: bool, counts: &mut [u64])
     ensures known { AreKnown (length counts.old) parts.new }
     ensures lines { (to : ℕ) → HaveLines 0 parts.old to → HaveLines 0 parts.new to }
+    ensures apart { AreApart parts.new }
 {
     count_numbers(parts, counts);
     let mut at = 0;
@@ -208,6 +213,7 @@ pub fn known_lines(
     ensures none { result.status ≡ 4 → length lines.old < result.lines → result.parts ≡ 0 }
     ensures takes { result.status ≡ 0 → Takes text.now 0 (take result.lines lines.new) (length text.now) }
     ensures known { result.status ≡ 0 → AreKnown (length counts.old) (take result.parts parts.new) }
+    ensures apart { result.status ≡ 0 → AreApart (take result.parts parts.new) }
     ensures lines { result.status ≡ 0 → HaveLines 0 (take result.parts parts.new) result.lines }
     ensures behind { drop result.parts parts.new ≡ drop result.parts parts.old }
 {
