@@ -49,7 +49,7 @@ enum nissy_doubt {
     NISSY_SMALL_LETTERS = 5,     /* a scramble has a move in a small letter */
     NISSY_COMMENT = 6,           /* three moves stand one after another in a comment of a step */
     NISSY_REPETITION = 7,        /* moves are said to be made several times, as in "(R U)x2", at the end of a step "R U x2", or in a comment */
-    NISSY_INSERTION = 8          /* a step has a mark at which others belong, such as "[1]" before moves or "*" after them, or tells what belongs
+    NISSY_INSERTION = 8          /* a step has a mark at which others belong, such as "[1]" between moves or "*" after them, or tells what belongs
                                   * there, as "* = R U"; or it is said that moves are inserted */
 };
 

@@ -1,9 +1,9 @@
 //! The calls that read text as solvers write it.
-ghost use Rattle.std.specs.Prelude.{◌≡◌, ◌≤◌, ◌<◌, ◌*◌, length, take, drop};
+ghost use Rattle.std.specs.Prelude.{◌≡◌, ◌≤◌, ◌<◌, ◌*◌, ◌⊎◌, length, take, drop};
 ghost use Rattle.niss_text.specs.Plain.{IsPlain};
-ghost use Rattle.niss_text.specs.Lines.{Covers, Counts, Takes};
+ghost use Rattle.niss_text.specs.Lines.{Covers, Counts, Takes, AreNumbered};
 ghost use Rattle.niss_text.specs.Moves.{WritesMoves};
-ghost use Rattle.niss_text.specs.Known.{AreKnown};
+ghost use Rattle.niss_text.specs.Known.{AreKnown, AreApart, HaveLines};
 
 use niss_text::{
     KnownAnswer, KnownPart, MovesPart, PlainAnswer, TextAnswer, TextLine, known_lines, plain_line,
@@ -27,6 +27,7 @@ pub extern "C" fn nissy_plain(text: &[u8], out: &mut [u8], places: &mut [u64]) -
 pub extern "C" fn nissy_text_lines(text: &[u8], lines: &mut [TextLine]) -> TextAnswer
     ensures covers { result.lines ≤ length lines.old → Covers text.now 0 (take result.lines lines.new) (length text.now) }
     ensures counts { Counts text.now 0 result.lines (length text.now) }
+    ensures numbers { result.lines ≤ length lines.old → AreNumbered 0 (take result.lines lines.new) result.attempts }
     ensures few { result.lines ≤ length text.now }
     ensures done { result.lines ≤ length lines.old → result.status ≡ 0 }
     ensures room { length lines.old < result.lines → result.status ≡ 4 }
@@ -63,8 +64,13 @@ pub extern "C" fn nissy_known_lines(
     ensures few { (result.lines ≤ length text.now) × (result.parts ≤ length text.now) }
     ensures fits { result.status ≡ 0 → (result.lines ≤ length lines.old) × (result.parts ≤ length parts.old) }
     ensures room { length text.now ≤ length lines.old → length text.now ≤ length parts.old → result.status ≡ 0 }
+    ensures told { (result.status ≡ 0) ⊎ (result.status ≡ 4) }
+    ensures counts { result.status ≡ 4 → Counts text.now 0 result.lines (length text.now) }
+    ensures none { result.status ≡ 4 → length lines.old < result.lines → result.parts ≡ 0 }
     ensures takes { result.status ≡ 0 → Takes text.now 0 (take result.lines lines.new) (length text.now) }
     ensures known { result.status ≡ 0 → AreKnown (length counts.old) (take result.parts parts.new) }
+    ensures apart { result.status ≡ 0 → AreApart (take result.parts parts.new) }
+    ensures lines { result.status ≡ 0 → HaveLines 0 (take result.parts parts.new) result.lines }
     ensures behind { drop result.parts parts.new ≡ drop result.parts parts.old }
 {
     known_lines(text, lines, parts, counts)

@@ -1,11 +1,12 @@
 -- One more line of a text.
-use Rattle.std.proofs.Common.{◌≡◌, ℕ, zero, suc, ◌+◌, ◌-◌, ◌<◌, ◌≤◌, List, [], ◌∷◌, ◌++◌, length, take, drop, set, get_or, zero-add, refl, sym, subst, ap, ◌∙◌, arith}
+use Rattle.std.proofs.Common.{◌≡◌, ℕ, zero, suc, ◌+◌, ◌-◌, ◌<◌, ◌≤◌, ◌⊎◌, inl, inr, List, [], ◌∷◌, ◌++◌, length, take, drop, set, get_or, zero-add, refl, sym, subst, ap, ◌∙◌, arith}
+use Rattle.std.proofs.lemmas.Bool.{cases_lt}
 use Rattle.std.proofs.lemmas.List.{take_more_set, drop-set-lt, drop-drop, get_or-drop, length-drop}
 use Rattle.niss_text.specs.declared.text_line.TextLine.{TextLine}
 use Rattle.niss_text.specs.Signs.{ends_line}
 use Rattle.niss_text.specs.Doubts.{IsDoubted}
 use Rattle.niss_text.specs.Lines.{IsLine, IsUnbroken, IsEnd, end_of, end_size}
-unfoldable use Rattle.niss_text.specs.Lines.{Covers, Counts, Takes}
+unfoldable use Rattle.niss_text.specs.Lines.{Covers, Counts, Takes, AreNumbered}
 
 pub covers_none : (text : List ℕ) (at : ℕ) → Covers text at [] at
 unfolding Covers
@@ -48,23 +49,25 @@ covers_next text lines count now size whole line room far is told end unbroken a
     (subst (λ (n : ℕ). Covers text 0 (take count lines ++ line ∷ []) n) there (covers_more text 0 (take count lines) now line size far is told end broken))
 
 takes_more : (text : List ℕ) (from : ℕ) (lines : List TextLine) (to : ℕ) (line : TextLine) (size : ℕ) → Takes text from lines to → IsLine to line → IsDoubted text line →
-    line.end ≡ to + size → IsUnbroken text to size → Takes text from (lines ++ line ∷ []) (line.end + end_size text line.end)
+    line.end ≡ to + size → IsUnbroken text to size → IsEnd text line.end → Takes text from (lines ++ line ∷ []) (line.end + end_size text line.end)
 unfolding Takes
-takes_more text from [] to line size far is told end whole =
-    subst (λ (at : ℕ). (from ≤ at) × (IsLine at line × (IsDoubted text line × ((n : ℕ) × (line.end ≡ at + n) × IsUnbroken text at n
-    × (line.end + end_size text line.end ≤ line.end + end_size text line.end))))) (sym is.begins) (far, (is, (told, (size, end, whole, omega arith))))
-takes_more text from (l ∷ ls) to line size far is told end whole =
-    (far.0, (far.1.0, (far.1.1.0, (far.1.1.1.0, far.1.1.1.1, far.1.1.1.2, takes_more text (l.end + end_size text l.end) ls to line size far.1.1.1.3 is told end whole))))
+takes_more text from [] to line size far is told end whole ended =
+    subst (λ (at : ℕ). (from ≤ at) × (IsLine at line × (IsDoubted text line × ((n : ℕ) × (line.end ≡ at + n) × IsUnbroken text at n × IsEnd text line.end
+    × (line.end + end_size text line.end ≤ line.end + end_size text line.end))))) (sym is.begins) (far, (is, (told, (size, end, whole, ended, omega arith))))
+takes_more text from (l ∷ ls) to line size far is told end whole ended =
+    (far.0, (far.1.0, (far.1.1.0, (far.1.1.1.0, far.1.1.1.1, far.1.1.1.2, far.1.1.1.3, takes_more text (l.end + end_size text l.end) ls to line size far.1.1.1.4 is told end whole ended))))
 
 -- the same in memory
 pub takes_next : (text : List ℕ) (lines : List TextLine) (count now size whole : ℕ) (line : TextLine) → count < length lines →
     Takes text 0 (take count lines) now → IsLine now line → IsDoubted text line → line.end ≡ now + size → IsUnbroken (drop now text) 0 size →
-    whole ≡ size + end_size (drop now text) size → Takes text 0 (take (count + 1) (set lines count line)) (now + whole)
-takes_next text lines count now size whole line room far is told end unbroken all =
+    whole ≡ size + end_size (drop now text) size → IsEnd (drop now text) size → Takes text 0 (take (count + 1) (set lines count line)) (now + whole)
+takes_next text lines count now size whole line room far is told end unbroken all ends =
     let there : line.end + end_size text line.end ≡ now + whole = line_ends text now size whole line end all in
     let broken : IsUnbroken text now size = λ k lt. ap (λ b. ends_line b) (sym (get_or-drop now text k 0)) ∙ ap (λ n. ends_line (get_or (drop now text) n 0)) (sym (zero-add k)) ∙ unbroken k lt in
+    let ended : IsEnd text (now + size) = λ lt. ap (λ b. ends_line b) (sym (get_or-drop now text size 0)) ∙ ends (omega (arith, lt, length-drop now text)) in
     subst (λ (ls : List TextLine). Takes text 0 ls (now + whole)) (sym (take_more_set lines count line room))
-    (subst (λ (n : ℕ). Takes text 0 (take count lines ++ line ∷ []) n) there (takes_more text 0 (take count lines) now line size far is told end broken))
+    (subst (λ (n : ℕ). Takes text 0 (take count lines ++ line ∷ []) n) there (takes_more text 0 (take count lines) now line size far is told end broken
+    (subst (λ (n : ℕ). IsEnd text n) (sym end) ended)))
 
 pub takes_none : (text : List ℕ) → Takes text 0 [] 0
 unfolding Takes
@@ -75,7 +78,7 @@ pub takes_further : (text : List ℕ) (from : ℕ) (lines : List TextLine) (to m
 unfolding Takes
 takes_further text from [] to more far le = omega (arith, far, le)
 takes_further text from (l ∷ ls) to more far le =
-    (far.0, (far.1.0, (far.1.1.0, (far.1.1.1.0, far.1.1.1.1, far.1.1.1.2, takes_further text (l.end + end_size text l.end) ls to more far.1.1.1.3 le))))
+    (far.0, (far.1.0, (far.1.1.0, (far.1.1.1.0, far.1.1.1.1, far.1.1.1.2, far.1.1.1.3, takes_further text (l.end + end_size text l.end) ls to more far.1.1.1.4 le))))
 
 pub counts_none : (text : List ℕ) (at : ℕ) → Counts text at 0 at
 unfolding Counts
@@ -119,3 +122,33 @@ more_behind lines first count more le far =
     let split : count + (more - count) ≡ more = omega arith in
     ap (λ n. drop n lines) (sym split) ∙ sym (drop-drop (more - count) count lines) ∙ ap (λ v. drop (more - count) v) far
     ∙ drop-drop (more - count) count first ∙ ap (λ n. drop n first) split
+
+pub numbered_none : AreNumbered 0 [] 0
+unfolding AreNumbered
+numbered_none = refl
+
+-- one more line, of the next attempt
+numbered_first : (seen : ℕ) (lines : List TextLine) (all : ℕ) (line : TextLine) → AreNumbered seen lines all → line.attempt ≡ all →
+    AreNumbered seen (lines ++ line ∷ []) (all + 1)
+unfolding AreNumbered
+numbered_first seen [] all line same is = inl (is ∙ sym same, ap (λ n. n + 1) same)
+numbered_first seen (l ∷ ls) all line (inl far) is = inl (far.0, numbered_first (seen + 1) ls all line far.1 is)
+numbered_first seen (l ∷ ls) all line (inr far) is = inr (far.0, numbered_first seen ls all line far.1 is)
+
+-- one more line of the same attempt
+numbered_same : (seen : ℕ) (lines : List TextLine) (all : ℕ) (line : TextLine) → AreNumbered seen lines all → line.attempt + 1 ≡ all →
+    AreNumbered seen (lines ++ line ∷ []) all
+unfolding AreNumbered
+numbered_same seen [] all line same is = inr (is ∙ sym same, same)
+numbered_same seen (l ∷ ls) all line (inl far) is = inl (far.0, numbered_same (seen + 1) ls all line far.1 is)
+numbered_same seen (l ∷ ls) all line (inr far) is = inr (far.0, numbered_same seen ls all line far.1 is)
+
+-- both in memory, at a place of an attempt
+pub numbered_next : (lines : List TextLine) (count all at : ℕ) (line : TextLine) → count < length lines → (at ≡ 0 → AreNumbered 0 (take count lines) all) →
+    (0 < at → AreNumbered 0 (take count lines) (all + 1)) → line.attempt ≡ all → AreNumbered 0 (take (count + 1) (set lines count line)) (all + 1)
+numbered_next lines count all at line room first more is =
+    subst (λ (ls : List TextLine). AreNumbered 0 ls (all + 1)) (sym (take_more_set lines count line room)) (by_place (cases_lt 0 at))
+  where
+    by_place : (0 < at) ⊎ (at ≤ 0) → AreNumbered 0 (take count lines ++ line ∷ []) (all + 1)
+    by_place (inl later) = numbered_same 0 (take count lines) (all + 1) line (more later) (ap (λ n. n + 1) is)
+    by_place (inr here) = numbered_first 0 (take count lines) all line (first (omega (arith, here))) is

@@ -1,7 +1,9 @@
 -- The moves of some lines as far as they are written, and those of one more line.
-use Rattle.std.proofs.Common.{◌≡◌, ℕ, zero, suc, ◌+◌, ◌*◌, ◌-◌, ◌<◌, ◌≤◌, true, false, cond, Option, None, Some, List, [], ◌∷◌, ◌++◌, length, take, drop, set, map, slice_range, add-zero, zero-add, refl, sym, ap, ◌∙◌, append_assoc, length-append, arith}
+use Rattle.std.proofs.Common.{◌≡◌, ℕ, zero, suc, ◌+◌, ◌*◌, ◌-◌, ◌<◌, ◌≤◌, ◌⊎◌, inl, inr, true, false, cond, Option, None, Some, List, [], ◌∷◌, ◌++◌, length, take, drop, set, map, slice_range, add-zero, zero-add, refl, sym, ap, ◌∙◌, append_assoc, length-append, arith}
 use Rattle.std.specs.List.{All, filter}
-use Rattle.std.proofs.lemmas.List.{append-nil, take_more_set, length-set, drop-set-lt, drop-drop}
+use Rattle.std.proofs.Math.Seq.{set_out}
+use Rattle.std.proofs.lemmas.Bool.{cases_lt}
+use Rattle.std.proofs.lemmas.List.{append-nil, take_all, take-append-le, take_more_set, length-set, drop-set-lt, drop-drop}
 use Rattle.std.proofs.lemmas.List.Elements.{All-append}
 use Rattle.niss_text.specs.declared.left_out.LeftOut.{LeftOut}
 use Rattle.niss_text.specs.declared.moves.MovesOf.{MovesOf}
@@ -119,6 +121,26 @@ parts_more text gap at before (n ∷ ms) m =
     (parts_more text gap (at + length own) (Some n.line.end) ms m
     ∙ ap (λ k. parts_after text gap (at + length own) (Some n.line.end) ms ++ part_of text gap k (end_after (Some n.line.end) ms) m ∷ []) there)
 
+-- as many as there are lines
+parts_many : (text : List ℕ) (gap at : ℕ) (before : Option ℕ) (ms : List LineMoves) → length (parts_after text gap at before ms) ≡ length ms
+unfolding parts_after
+parts_many text gap at before [] = refl
+parts_many text gap at before (m ∷ ms) =
+    ap suc (parts_many text gap (at + length (gap_after gap before ++ bytes_of_moves m)) (Some m.line.end) ms)
+
+-- One more is told, as far as there is room.
+told_more : (parts told : List MovesPart) (count : ℕ) (last : MovesPart) → length told ≡ count → take count parts ≡ take (length parts) told →
+    take (count + 1) (set parts count last) ≡ take (length parts) (told ++ last ∷ [])
+told_more parts told count last many far = by_room (cases_lt count (length parts))
+  where
+    by_room : (count < length parts) ⊎ (length parts ≤ count) → take (count + 1) (set parts count last) ≡ take (length parts) (told ++ last ∷ [])
+    by_room (inl fits) =
+        take_more_set parts count last fits ∙ ap (λ v. v ++ last ∷ []) (far ∙ take_all (length parts) told (omega (arith, many, fits)))
+        ∙ sym (take_all (length parts) (told ++ last ∷ []) (omega (arith, length-append told (last ∷ []), many, fits)))
+    by_room (inr full) =
+        ap (λ v. take (count + 1) v) (set_out parts count last full) ∙ take_all (count + 1) parts (omega (arith, full))
+        ∙ sym (take_all count parts full) ∙ far ∙ sym (take-append-le (length parts) told (last ∷ []) (omega (arith, many, full)))
+
 all_one : (text : List ℕ) (m : LineMoves) → AreMoves text m → All (AreMoves text) (m ∷ [])
 all_one text m one zero d lt = one
 all_one text m one (suc k) d lt = absurd (omega arith)
@@ -138,7 +160,7 @@ pub record SoMany (text : List ℕ) (of : MovesOf) (lines rest : List TextLine) 
   pub places_are : places_after None moves ≡ places
   pub left_is : left_of_lines text moves ≡ left
   pub so_many : length moves ≡ count
-  pub parts_are : count ≤ length parts → take count parts ≡ parts_after text (gap_of of) 0 None moves
+  pub parts_are : take count parts ≡ take (length parts) (parts_after text (gap_of of) 0 None moves)
 
 pub no_line : (text : List ℕ) (of : MovesOf) (lines : List TextLine) (bytes places : List ℕ) (left : LeftOut) (parts : List MovesPart) → bytes ≡ [] → places ≡ [] → left ≡ left_none →
     SoMany text of lines lines None bytes places left 0 parts
@@ -152,7 +174,7 @@ no_line text of lines bytes places left parts no_bytes no_places none = record {
   places_are = sym no_places;
   left_is = sym none;
   so_many = refl;
-  parts_are = λ room. refl;
+  parts_are = sym (take_all (length parts) [] (omega arith));
 }
 
 filter_with : (of : MovesOf) (line : TextLine) (others : List TextLine) → is_wanted of line ≡ true → filter (is_wanted of) (line ∷ others) ≡ line ∷ filter (is_wanted of) others
@@ -197,15 +219,15 @@ one_joined text of lines rest others line gap before before' bytes bytes' places
           ∙ ap (λ b. places ++ (place_after b ++ places_of_moves m)) far.before_is ∙ adds.places_are;
       left_is = left_more text ms m ∙ ap (λ v. both v (left_of_moves text m)) far.left_is ∙ adds.left_is;
       so_many = omega (arith, length-append ms (m ∷ []), far.so_many);
-      parts_are = λ room.
+      parts_are =
+          let told : List MovesPart = parts_after text (gap_of of) 0 None ms in
           let long : length parts' ≡ length parts = ap length set_is ∙ length-set parts count last in
-          let fits : count < length parts = omega (arith, room, long) in
           let own : part_of text (gap_of of) (0 + length (bytes_after (gap_of of) None ms)) (end_after None ms) m ≡ last =
           ap (λ n. part_of text (gap_of of) n (end_after None ms) m) (zero-add (length (bytes_after (gap_of of) None ms)) ∙ ap length far.bytes_are)
           ∙ ap (λ b. part_of text (gap_of of) (length bytes) b m) far.before_is ∙ ap (λ g. part_of text g (length bytes) before m) (sym same) ∙ adds.last_is in
-          ap (λ v. take (count + 1) v) set_is ∙ take_more_set parts count last fits
-          ∙ ap (λ v. v ++ last ∷ []) (far.parts_are (omega (arith, fits)))
-          ∙ ap (λ p. parts_after text (gap_of of) 0 None ms ++ p ∷ []) (sym own) ∙ sym (parts_more text (gap_of of) 0 None ms m);
+          ap (λ v. take (count + 1) v) set_is ∙ told_more parts told count last (parts_many text (gap_of of) 0 None ms ∙ far.so_many) far.parts_are
+          ∙ ap (λ p. take (length parts) (told ++ p ∷ [])) (sym own) ∙ ap (λ v. take (length parts) v) (sym (parts_more text (gap_of of) 0 None ms m))
+          ∙ ap (λ n. take n (parts_after text (gap_of of) 0 None (ms ++ m ∷ []))) (sym long);
     }
 
 pub all_joined : (text : List ℕ) (of : MovesOf) (lines rest : List TextLine) (before : Option ℕ) (bytes places : List ℕ) (left : LeftOut) (count : ℕ) (parts : List MovesPart) → rest ≡ [] →
@@ -217,7 +239,7 @@ all_joined text of lines rest before bytes places left count parts none far = re
   bytes_are = far.bytes_are;
   places_are = far.places_are;
   left_is = far.left_is;
-  parts_are = λ room. ap (λ n. take n parts) far.so_many ∙ far.parts_are (omega (arith, far.so_many, room));
+  parts_are = ap (λ n. take n parts) far.so_many ∙ far.parts_are;
 }
 
 -- what the moves of the wanted ones of some lines may take, by the first line

@@ -90,11 +90,18 @@ pub record IsAsWritten (text : List ℕ) (from to : ℕ) : Type 0 where
   pub apart : (j : ℕ) → from < j → j < to → sees text Parted j ≡ true → IsParted text from to
   pub unprimed : ((j : ℕ) → from ≤ j → j < to → sees text Prime j ≡ false) → IsParted text from to
 
--- What is said to make a line doubtful stands there, and a line of the scramble or of the solution of which nothing is
--- said has no letters together that aren't written as moves, and no number of times after brackets; one of the scramble
--- has no small letter of a turn either, and one of the solution no digit in square brackets among its moves.
+-- What is said to make a line doubtful stands there, and nothing at its end. Nothing is said of a line before a scramble,
+-- of another scramble only in one, of several solutions and of moves in comments only in a step. A line of the scramble
+-- or of the solution of which nothing is said has no letters together that aren't written as moves, and no number of
+-- times after brackets; one of the scramble has no small letter of a turn either, and one of the solution no digit in
+-- square brackets among its moves.
 pub record IsDoubted (text : List ℕ) (line : TextLine) : Type 0 where
   pub place : (line.begin ≤ line.doubt_at) × (line.doubt_at ≤ line.end)
+  pub nowhere : line.doubt ≡ 0 → line.doubt_at ≡ line.end
+  pub before : line.kind < 2 → line.doubt ≡ 0
+  pub another : line.doubt ≡ 1 → line.kind ≡ 2
+  pub several : line.doubt ≡ 2 → line.kind ≡ 3
+  pub comment : line.doubt ≡ 6 → line.kind ≡ 3
   pub small : line.doubt ≡ 5 → (line.kind ≡ 2) × (sees text Small line.doubt_at ≡ true)
   pub letters : line.doubt ≡ 4 → sees text Joined line.doubt_at ≡ true
   pub scramble : line.doubt ≡ 0 → line.kind ≡ 2 → IsAsWritten text line.moves line.comment

@@ -1,10 +1,10 @@
 -- The lines of a text, one after another, and where their parts stand.
-use Rattle.std.specs.Prelude.{◌≡◌, ℕ, zero, suc, ◌==◌, ◌+◌, ◌<◌, ◌≤◌, ◌&&◌, true, false, if◌then◌else◌, List, [], ◌∷◌, length, slice_index}
+use Rattle.std.specs.Prelude.{◌≡◌, ℕ, zero, suc, ◌==◌, ◌+◌, ◌<◌, ◌≤◌, ◌⊎◌, ◌&&◌, true, false, if◌then◌else◌, List, [], ◌∷◌, length, slice_index}
 use Rattle.niss_text.specs.Signs.{ends_line}
 use Rattle.niss_text.specs.Doubts.{IsDoubted}
 use Rattle.niss_text.specs.declared.text_line.TextLine.{TextLine}
 
--- A line that begins there. Its parts stand in this order, and none overlaps another.
+-- A line that begins there. Its parts stand in this order, and none overlaps another. Only a step is on the inverse.
 pub record IsLine (from : ℕ) (line : TextLine) : Type 0 where
   pub begins : line.begin ≡ from
   pub head : line.begin ≤ line.head_end
@@ -13,6 +13,7 @@ pub record IsLine (from : ℕ) (line : TextLine) : Type 0 where
   pub title : line.label_end ≤ line.moves
   pub moves : line.moves ≤ line.comment
   pub comment : line.comment ≤ line.end
+  pub inverse : (line.is_inverse ≡ 0) ⊎ (line.kind ≡ 3)
 
 -- how many bytes of two end a line: a return and a line feed both, either of them alone, or none
 abbrev pub end_of : ℕ → ℕ → ℕ
@@ -43,9 +44,17 @@ Covers text from [] to = from ≡ to
 Covers text from (line ∷ lines) to =
     IsLine from line × (IsDoubted text line × ((size : ℕ) × (line.end ≡ from + size) × IsUnbroken text from size × Covers text (line.end + end_size text line.end) lines to))
 
--- Some of the lines of a text from one place to another, in order; others may stand between them.
+-- Some of the lines of a text from one place to another, in order: each from some place in its line to what ends that.
+-- Others may stand between them.
 unfoldable pub Takes : List ℕ → ℕ → List TextLine → ℕ → Type 0
 Takes text from [] to = from ≤ to
 Takes text from (line ∷ lines) to =
     (from ≤ line.begin) × (IsLine line.begin line × (IsDoubted text line × ((size : ℕ) × (line.end ≡ line.begin + size) × IsUnbroken text line.begin size
-    × Takes text (line.end + end_size text line.end) lines to)))
+    × IsEnd text line.end × Takes text (line.end + end_size text line.end) lines to)))
+
+-- The attempts of lines are numbered in order, from that many on: a line is of the next one, or of the same as the line
+-- before. After the lines these are so many.
+unfoldable pub AreNumbered : ℕ → List TextLine → ℕ → Type 0
+AreNumbered seen [] all = seen ≡ all
+AreNumbered seen (line ∷ lines) all =
+    ((line.attempt ≡ seen) × AreNumbered (seen + 1) lines all) ⊎ ((line.attempt + 1 ≡ seen) × AreNumbered seen lines all)

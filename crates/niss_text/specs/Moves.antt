@@ -115,7 +115,7 @@ parts_after text gap at before (m ∷ ms) =
     part_of text gap at before m ∷ parts_after text gap (at + length (gap_after gap before ++ bytes_of_moves m)) (Some m.line.end) ms
 
 -- The moves of the wanted ones of some lines are this line, in order, with these places, and this is left out. Where
--- those of each stand is told, if there is room for all.
+-- those of each stand is told, as far as there is room.
 pub record AreJoined (text : List ℕ) (of : MovesOf) (lines : List TextLine) (bytes places : List ℕ) (left : LeftOut) (room : ℕ)
     (parts : List MovesPart) : Type 0 where
   pub moves : List LineMoves
@@ -124,7 +124,7 @@ pub record AreJoined (text : List ℕ) (of : MovesOf) (lines : List TextLine) (b
   pub bytes_are : bytes_after (gap_of of) None moves ≡ bytes
   pub places_are : places_after None moves ≡ places
   pub left_is : left_of_lines text moves ≡ left
-  pub parts_are : length moves ≤ room → take (length moves) parts ≡ parts_after text (gap_of of) 0 None moves
+  pub parts_are : take (length moves) parts ≡ take room (parts_after text (gap_of of) 0 None moves)
 
 -- how many bytes the moves of these lines have at most: three for each, and three for what is put around them
 unfoldable pub most_bytes : List TextLine → ℕ

@@ -1,6 +1,6 @@
 //! The attempts of a text as solvers write it: which of its lines are scrambles, steps and notes.
 ghost use Rattle.std.specs.Prelude.{◌≡◌, ◌≤◌, ◌<◌, ◌+◌, length, take, drop, set};
-ghost use Rattle.niss_text.specs.Lines.{IsLine, Covers, Counts, Takes};
+ghost use Rattle.niss_text.specs.Lines.{IsLine, Covers, Counts, Takes, AreNumbered};
 
 use crate::doubts::judged;
 use crate::groups::{Group, Solutions};
@@ -52,6 +52,7 @@ struct Attempt {
 fn first_attempt(text: &[u8], numbers: Numbers, number: usize) -> Attempt
     ensures within { result.length ≤ length text.now }
     ensures some { 0 < length text.now → 0 < result.length }
+    ensures number { result.number ≡ number }
 {
     let seen = outline_of(text, numbers);
     let lines = &text[..seen.length];
@@ -86,7 +87,9 @@ impl Attempt {
 }
 
 /// What a line of an attempt is there, of this kind and in this group.
-fn role_of(attempt: &Attempt, line: &Line, kind: LineKind, group: usize) -> Role {
+fn role_of(attempt: &Attempt, line: &Line, kind: LineKind, group: usize) -> Role
+    ensures { result.attempt ≡ attempt.now.number }
+{
     Role {
         kind,
         is_solution: kind.is_after_scramble() && attempt.solution == Some(group),
@@ -124,6 +127,8 @@ fn put_attempt(
     ensures takes { Takes text.now 0 (take written lines.old) begin → result.0 ≤ length lines.new →
         Takes text.now 0 (take result.0 lines.new) result.1 }
     ensures counts { Counts text.now 0 written begin → Counts text.now 0 result.0 result.1 }
+    ensures numbers { AreNumbered 0 (take written lines.old) attempt.now.number → result.0 ≤ length lines.new →
+        AreNumbered 0 (take result.0 lines.new) (attempt.now.number + 1) }
     ensures behind { drop result.0 lines.new ≡ drop result.0 lines.old }
 {
     let mut at = 0;
@@ -165,7 +170,7 @@ pub struct Progress {
 impl Progress {
     /// Before the first line.
     pub fn nothing() -> Progress
-        ensures { (result.at ≡ 0) × (result.lines ≡ 0) }
+        ensures { (result.at ≡ 0) × ((result.lines ≡ 0) × (result.attempts ≡ 0)) }
     {
         Progress {
             at: 0,
@@ -186,6 +191,8 @@ pub fn put_attempts(text: &[u8], end: usize, so_far: Progress, lines: &mut [Text
     ensures takes { Takes text.now 0 (take so_far.lines lines.old) so_far.at → result.lines ≤ length lines.new →
         Takes text.now 0 (take result.lines lines.new) result.at }
     ensures counts { Counts text.now 0 so_far.lines so_far.at → Counts text.now 0 result.lines result.at }
+    ensures numbers { AreNumbered 0 (take so_far.lines lines.old) so_far.attempts → so_far.attempts ≤ so_far.at →
+        result.lines ≤ length lines.new → AreNumbered 0 (take result.lines lines.new) result.attempts }
     ensures behind { drop result.lines lines.new ≡ drop result.lines lines.old }
 {
     let has_extras = has_extras(&text[so_far.at.min(end)..end]);
@@ -260,6 +267,7 @@ fn solution_alone(text: &[u8]) -> Attempt
 pub fn text_lines(text: &[u8], lines: &mut [TextLine]) -> TextAnswer
     ensures covers { result.lines ≤ length lines.old → Covers text.now 0 (take result.lines lines.new) (length text.now) }
     ensures counts { Counts text.now 0 result.lines (length text.now) }
+    ensures numbers { result.lines ≤ length lines.old → AreNumbered 0 (take result.lines lines.new) result.attempts }
     ensures few { result.lines ≤ length text.now }
     ensures done { result.lines ≤ length lines.old → result.status ≡ 0 }
     ensures room { length lines.old < result.lines → result.status ≡ 4 }

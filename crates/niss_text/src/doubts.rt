@@ -83,7 +83,8 @@ fn letters_at(text: &[u8], from: usize, to: usize) -> usize
 /// What makes one doubt moves of which something is said by the letters that a text begins with. A side counts only
 /// if the moves have no brackets.
 fn doubt_of_words(text: &[u8], has_brackets: bool) -> Doubt
-    ensures { (number_of result ≡ 4 → ⊥) × (number_of result ≡ 5 → ⊥) }
+    ensures others { (number_of result ≡ 4 → ⊥) × (number_of result ≡ 5 → ⊥) }
+    ensures said { (number_of result ≡ 1 → ⊥) × ((number_of result ≡ 2 → ⊥) × (number_of result ≡ 6 → ⊥)) }
 {
     match first_topic(text) {
         Some(Topic::Side) if !has_brackets => Doubt::Side,
@@ -100,6 +101,7 @@ fn first_said(text: &[u8], from: usize, to: usize, has_brackets: bool) -> (Doubt
     ensures fits { result.1 ≤ to }
     ensures there { from ≤ to → from ≤ result.1 }
     ensures others { (number_of result.0 ≡ 4 → ⊥) × (number_of result.0 ≡ 5 → ⊥) }
+    ensures said { (number_of result.0 ≡ 1 → ⊥) × ((number_of result.0 ≡ 2 → ⊥) × (number_of result.0 ≡ 6 → ⊥)) }
 {
     for at in from..to {
         let rest = &text[at..to];
@@ -121,6 +123,7 @@ fn doubt_said(text: &[u8], told: &TextLine) -> (Doubt, usize)
     requires fits { told.now.end ≤ length text.now }
     ensures place { (told.now.begin ≤ result.1) × (result.1 ≤ told.now.end) }
     ensures others { (number_of result.0 ≡ 4 → ⊥) × (number_of result.0 ≡ 5 → ⊥) }
+    ensures said { (number_of result.0 ≡ 1 → ⊥) × ((number_of result.0 ≡ 2 → ⊥) × (number_of result.0 ≡ 6 → ⊥)) }
 {
     if told.is_a(LineKind::Note) {
         if is_mark(&text[told.begin..told.end]) {
@@ -143,6 +146,8 @@ fn doubt_of_step(text: &[u8], told: &TextLine, slashes: usize, has_solution: boo
     requires slashes { (told.now.comment ≤ slashes) × (slashes ≤ told.now.end) }
     ensures place { (told.now.begin ≤ result.1) × (result.1 ≤ told.now.end) }
     ensures others { (number_of result.0 ≡ 4 → ⊥) × (number_of result.0 ≡ 5 → ⊥) }
+    ensures one { number_of result.0 ≡ 1 → ⊥ }
+    ensures nowhere { result.0 ≡ Nothing → result.1 ≡ told.now.end }
     ensures unmarked { result.0 ≡ Nothing → HasNone text.now Marked (told.now.moves + 1) told.now.comment }
 {
     if has_three_moves(&text[slashes..told.end]) {
@@ -177,6 +182,9 @@ fn doubt_of_moves(text: &[u8], told: &TextLine, line: &Line, has_solution: bool)
     requires same { told.now.begin + line.now.length ≡ told.now.end }
     requires comment { told.now.begin + line.now.comment ≡ told.now.comment }
     ensures place { (told.now.begin ≤ result.1) × (result.1 ≤ told.now.end) }
+    ensures nowhere { result.0 ≡ Nothing → result.1 ≡ told.now.end }
+    ensures another { number_of result.0 ≡ 1 → told.now.kind ≡ 2 }
+    ensures of_step { told.now.kind ≡ 2 → (number_of result.0 ≡ 2 → ⊥) × (number_of result.0 ≡ 6 → ⊥) }
     ensures kind { result.0 ≡ SmallLetters → told.now.kind ≡ 2 }
     ensures small { result.0 ≡ SmallLetters → sees text.now Small result.1 ≡ true }
     ensures letters { result.0 ≡ Letters → sees text.now Joined result.1 ≡ true }
@@ -218,6 +226,11 @@ fn doubt_of(text: &[u8], told: &TextLine, line: &Line, has_solution: bool) -> (D
     requires same { told.now.begin + line.now.length ≡ told.now.end }
     requires comment { told.now.begin + line.now.comment ≡ told.now.comment }
     ensures place { (told.now.begin ≤ result.1) × (result.1 ≤ told.now.end) }
+    ensures nowhere { result.0 ≡ Nothing → result.1 ≡ told.now.end }
+    ensures before { told.now.kind < 2 → number_of result.0 ≡ 0 }
+    ensures another { number_of result.0 ≡ 1 → told.now.kind ≡ 2 }
+    ensures several { number_of result.0 ≡ 2 → told.now.kind ≡ 3 }
+    ensures comment { number_of result.0 ≡ 6 → told.now.kind ≡ 3 }
     ensures small { result.0 ≡ SmallLetters → (told.now.kind ≡ 2) × (sees text.now Small result.1 ≡ true) }
     ensures letters { result.0 ≡ Letters → sees text.now Joined result.1 ≡ true }
     ensures scramble { result.0 ≡ Nothing → told.now.kind ≡ 2 → IsAsWritten text.now told.now.moves told.now.comment }
@@ -248,6 +261,7 @@ fn doubt_of(text: &[u8], told: &TextLine, line: &Line, has_solution: bool) -> (D
 fn is_inverse(text: &[u8], told: &TextLine) -> bool
     requires line { IsLine told.now.begin told.now }
     requires fits { told.now.end ≤ length text.now }
+    ensures { result ≡ true → told.now.kind ≡ 3 }
 {
     let label = &text[told.label_begin..told.label_end];
     let comment = &text[told.comment..told.end];
@@ -266,6 +280,7 @@ pub fn judged(text: &[u8], told: TextLine, line: &Line, has_solution: bool) -> T
     requires comment { told.begin + line.now.comment ≡ told.comment }
     ensures is { IsLine told.begin result }
     ensures ends { result.end ≡ told.end }
+    ensures attempt { result.attempt ≡ told.attempt }
     ensures doubt { IsDoubted text.now result }
 {
     let (doubt, at) = doubt_of(text, &told, line, has_solution);

@@ -1,8 +1,8 @@
 //! A text that has only solutions, of scrambles that are known: which part of it is of which scramble, and what its
 //! lines are after that scramble.
-ghost use Rattle.std.specs.Prelude.{◌≡◌, ◌≤◌, ◌<◌, ◌+◌, ◌⊎◌, length, drop, set, take};
-ghost use Rattle.niss_text.specs.Known.{AreKnown};
-ghost use Rattle.niss_text.specs.Lines.{Takes};
+ghost use Rattle.std.specs.Prelude.{◌≡◌, ◌≤◌, ◌<◌, ◌+◌, ◌⊎◌, ℕ, MatchOption, length, drop, get_or, set, take};
+ghost use Rattle.niss_text.specs.Known.{AreKnown, AreApart, AreCounted, HaveLines};
+ghost use Rattle.niss_text.specs.Lines.{Counts, Takes};
 
 use crate::attempts::{Progress, put_attempts, put_solution};
 use crate::parts::{Part, first_part, has_head};
@@ -77,7 +77,7 @@ impl Reading {
     }
 
     /// With one more part.
-    #[tactic(auto, using(crate::proofs::LineLemmas::takes_further))]
+    #[tactic(auto, using(crate::proofs::LineLemmas::takes_further, crate::proofs::KnownLemmas::lines_next))]
     fn with(
         self,
         text: &[u8],
@@ -92,6 +92,8 @@ impl Reading {
         ensures more { (self.parts ≤ result.parts) × (self.read.lines ≤ result.read.lines) }
         ensures takes { Takes text.now 0 (take self.read.lines lines.old) self.read.at → result.read.lines ≤ length lines.new →
             Takes text.now 0 (take result.read.lines lines.new) result.read.at }
+        ensures lines { HaveLines 0 (take self.parts parts.old) self.read.lines → result.parts ≤ length parts.new →
+            HaveLines 0 (take result.parts parts.new) result.read.lines }
         ensures behind_parts { drop result.parts parts.new ≡ drop result.parts parts.old }
     {
         // the parts follow one another
@@ -135,6 +137,7 @@ fn read_parts(
     ensures at { result.read.at ≤ length text.now }
     ensures few { result.parts ≤ count }
     ensures takes { result.read.lines ≤ length lines.new → Takes text.now 0 (take result.read.lines lines.new) result.read.at }
+    ensures lines { result.parts ≤ length parts.new → HaveLines 0 (take result.parts parts.new) result.read.lines }
     ensures behind_parts { drop result.parts parts.new ≡ drop result.parts parts.old }
 {
     let mut seen = Reading::nothing();
@@ -150,7 +153,9 @@ fn read_parts(
 }
 
 /// Counts how many parts have the number of each scramble.
-fn count_numbers(parts: &[KnownPart], counts: &mut [u64]) {
+fn count_numbers(parts: &[KnownPart], counts: &mut [u64])
+    ensures { AreCounted parts.now counts.new }
+{
     counts.fill(0);
     for part in parts {
         if part.scramble < counts.len() {
@@ -161,7 +166,9 @@ fn count_numbers(parts: &[KnownPart], counts: &mut [u64]) {
 
 /// Which scramble a part is of: that in its place, or that of its number if no other part has it.
 fn scramble_of(part: &KnownPart, place: Option<usize>, counts: &[u64]) -> usize
-    ensures { (result < length counts.now) ⊎ (result ≡ usize.MAX) }
+    ensures known { (result < length counts.now) ⊎ (result ≡ usize.MAX) }
+    ensures own { (result ≡ usize.MAX) ⊎ MatchOption place
+        ((result < length counts.now) × (get_or counts.now result 0 ≡ 1) × (part.now.scramble ≡ result)) (λ at. result ≡ at) }
 {
     let scramble = place.unwrap_or(part.scramble);
     if scramble < counts.len() && (place.is_some() || counts[scramble] == 1) {
@@ -173,7 +180,9 @@ fn scramble_of(part: &KnownPart, place: Option<usize>, counts: &[u64]) -> usize
 
 /// Tells of each part which scramble it is of, of as many as there are counts.
 fn assign(parts: &mut [KnownPart], is_in_order: bool, counts: &mut [u64])
-    ensures { AreKnown (length counts.old) parts.new }
+    ensures known { AreKnown (length counts.old) parts.new }
+    ensures lines { (to : ℕ) → HaveLines 0 parts.old to → HaveLines 0 parts.new to }
+    ensures apart { AreApart parts.new }
 {
     count_numbers(parts, counts);
     let mut at = 0;
@@ -189,7 +198,7 @@ fn assign(parts: &mut [KnownPart], is_in_order: bool, counts: &mut [u64])
 /// A part is of the scramble of its number, if no other one has that; of as many parts as scrambles without any number
 /// each is of the scramble in its place. As many lines and parts as the text has bytes are room enough. What stood in the
 /// counts says nothing, nor what stands there then.
-#[tactic(auto, using(crate::proofs::LineLemmas::takes_further))]
+#[tactic(auto, using(crate::proofs::LineLemmas::takes_further, crate::proofs::LineLemmas::counts_none))]
 pub fn known_lines(
     text: &[u8],
     lines: &mut [TextLine],
@@ -199,8 +208,13 @@ pub fn known_lines(
     ensures few { (result.lines ≤ length text.now) × (result.parts ≤ length text.now) }
     ensures fits { result.status ≡ 0 → (result.lines ≤ length lines.old) × (result.parts ≤ length parts.old) }
     ensures room { length text.now ≤ length lines.old → length text.now ≤ length parts.old → result.status ≡ 0 }
+    ensures told { (result.status ≡ 0) ⊎ (result.status ≡ 4) }
+    ensures counts { result.status ≡ 4 → Counts text.now 0 result.lines (length text.now) }
+    ensures none { result.status ≡ 4 → length lines.old < result.lines → result.parts ≡ 0 }
     ensures takes { result.status ≡ 0 → Takes text.now 0 (take result.lines lines.new) (length text.now) }
     ensures known { result.status ≡ 0 → AreKnown (length counts.old) (take result.parts parts.new) }
+    ensures apart { result.status ≡ 0 → AreApart (take result.parts parts.new) }
+    ensures lines { result.status ≡ 0 → HaveLines 0 (take result.parts parts.new) result.lines }
     ensures behind { drop result.parts parts.new ≡ drop result.parts parts.old }
 {
     let all = put_attempts(text, text.len(), Progress::nothing(), lines);

@@ -99,6 +99,7 @@ pub fn told_line(role: &Role, line: &Line, begin: usize) -> TextLine
     ensures comment { result.comment ≡ begin + line.now.comment }
     ensures undoubted { result.doubt_at ≡ result.end }
     ensures kind { result.kind ≡ number_of_kind role.now.kind }
+    ensures attempt { result.attempt ≡ role.now.attempt }
 {
     TextLine {
         kind: role.kind.number(),

@@ -1,8 +1,8 @@
 use Rattle.std.proofs.Common.{◌≡◌, ◌+◌, ◌<◌, ℕ, List, length, take, drop, set, sym, ap, ◌∙◌, subst, arith}
 use Rattle.std.proofs.lemmas.List.{length-set, length-drop}
 use Rattle.niss_text.specs.declared.text_line.TextLine.{TextLine}
-use Rattle.niss_text.specs.Lines.{IsLine, IsUnbroken, IsEnd, Covers, Counts, Takes, end_size}
-use Rattle.niss_text.proofs.LineLemmas.{covers_next, counts_next, takes_next, same_behind_line}
+use Rattle.niss_text.specs.Lines.{IsLine, IsUnbroken, IsEnd, Covers, Counts, Takes, AreNumbered, end_size}
+use Rattle.niss_text.proofs.LineLemmas.{covers_next, counts_next, takes_next, numbered_next, same_behind_line}
 use Rattle.niss_text.proofs.attempts.put_attempt.Goals as goal
 
 pub loop-at-preserved : goal.loop-at-preserved
@@ -37,8 +37,14 @@ loop-at-preserved c =
           subst (λ (n : ℕ). Takes text 0 (take (count + 1) c.put_line.new.lines) n) there
           (subst (λ (ls : List TextLine). Takes text 0 (take (count + 1) ls) (now + whole)) (sym e)
           (takes_next text lines count now size whole told (omega (arith, room, same)) (inv.takes begun (omega (arith, room, same)))
-          begins c.judged-told.ensures.doubt (c.judged-told.ensures.ends ∙ c.told_line-told.ensures.ends) unbroken all));
+          begins c.judged-told.ensures.doubt (c.judged-told.ensures.ends ∙ c.told_line-told.ensures.ends) unbroken all ended));
       counts = λ begun. subst (λ (n : ℕ). Counts text 0 (count + 1) n) there
           (counts_next text count now size whole (inv.counts begun) (omega (arith, some, c.cut_line-whole.ensures.fits, ap length rest, length-drop now text)) unbroken ended all);
+      first = λ begun here. absurd (omega (arith, here, some));
+      numbers = λ begun further room.
+          subst (λ (ls : List TextLine). AreNumbered 0 (take (count + 1) ls) (c.args.attempt.now.number + 1)) (sym e)
+          (numbered_next lines count c.args.attempt.now.number c.loop-at.at told (omega (arith, room, same))
+          (λ here. inv.first begun here (omega (arith, room, same))) (λ later. inv.numbers begun later (omega (arith, room, same)))
+          (c.judged-told.ensures.attempt ∙ c.told_line-told.ensures.attempt ∙ c.role_of-role.ensures));
       behind = ap (λ v. drop (count + 1) v) e ∙ same_behind_line lines c.args.lines.now count told inv.behind;
     }

@@ -1,5 +1,5 @@
-use Rattle.std.proofs.Common.{◌≡◌, ◌+◌, ◌-◌, ◌≤◌, length, take, drop}
-use Rattle.niss_text.specs.Lines.{Covers, Counts, Takes}
+use Rattle.std.proofs.Common.{◌≡◌, ◌+◌, ◌-◌, ◌<◌, ◌≤◌, length, take, drop}
+use Rattle.niss_text.specs.Lines.{Covers, Counts, Takes, AreNumbered}
 use Rattle.niss_text.proofs.attempts.put_attempt.Given as goal
 
 abbrev pub invariant-loop-at : goal.invariant-loop-at
@@ -10,6 +10,10 @@ invariant-loop-at l = record {
   covers : Covers l.text 0 (take l.written l.initial.lines) l.begin → l.count ≤ length l.lines → Covers l.text 0 (take l.count l.lines) (l.begin + l.at);
   takes : Takes l.text 0 (take l.written l.initial.lines) l.begin → l.count ≤ length l.lines → Takes l.text 0 (take l.count l.lines) (l.begin + l.at);
   counts : Counts l.text 0 l.written l.begin → Counts l.text 0 l.count (l.begin + l.at);
+  first : AreNumbered 0 (take l.written l.initial.lines) l.attempt.number → l.at ≡ 0 → l.count ≤ length l.lines →
+      AreNumbered 0 (take l.count l.lines) l.attempt.number;
+  numbers : AreNumbered 0 (take l.written l.initial.lines) l.attempt.number → 0 < l.at → l.count ≤ length l.lines →
+      AreNumbered 0 (take l.count l.lines) (l.attempt.number + 1);
   behind : drop l.count l.lines ≡ drop l.count l.initial.lines;
 }
 

@@ -1,4 +1,5 @@
-use Rattle.std.proofs.Common.{◌≡◌, length, ◌∙◌, arith}
+use Rattle.std.proofs.Common.{◌≡◌, ℕ, ◌+◌, length, take, sym, subst, ◌∙◌, arith}
+use Rattle.niss_text.specs.Lines.{AreNumbered}
 use Rattle.std.proofs.lemmas.Grind.{common_steps}
 use Rattle.niss_text.proofs.LineLemmas.{more_behind}
 use Rattle.niss_text.proofs.attempts.put_attempts.Goals as goal
@@ -17,5 +18,13 @@ loop-at-preserved c =
       covers = λ begun room. told.covers (inv.covers begun (omega (arith, room, same, told.more.0))) room;
       takes = λ begun room. told.takes (inv.takes begun (omega (arith, room, same, told.more.0))) room;
       counts = λ begun. told.counts (inv.counts begun);
+      numbered = λ low. omega (arith, c.saturating_add-attempts.ensures, inv.numbered low, told.further.0);
+      numbers = λ begun low room.
+          let own : c.first_attempt-attempt.result.number ≡ c.loop-at.attempts = c.first_attempt-attempt.ensures.number in
+          let one : c.first_attempt-attempt.result.number + 1 ≡ c.saturating_add-attempts.result =
+          omega (arith, own, c.saturating_add-attempts.ensures, inv.numbered low, told.further.0, told.further.1) in
+          subst (λ (n : ℕ). AreNumbered 0 (take c.put_attempt-more.result.0 c.put_attempt-more.new.lines) n) one
+          (told.numbers (subst (λ (n : ℕ). AreNumbered 0 (take c.loop-at.count c.loop-at.lines) n) (sym own)
+          (inv.numbers begun low (omega (arith, room, same, told.more.0)))) room);
       behind = told.behind ∙ more_behind c.loop-at.lines c.args.lines.now c.loop-at.count c.put_attempt-more.result.0 told.more.0 inv.behind;
     }

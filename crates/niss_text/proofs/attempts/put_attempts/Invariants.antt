@@ -1,5 +1,5 @@
 use Rattle.std.proofs.Common.{◌≡◌, ◌-◌, ◌≤◌, length, take, drop}
-use Rattle.niss_text.specs.Lines.{Covers, Counts, Takes}
+use Rattle.niss_text.specs.Lines.{Covers, Counts, Takes, AreNumbered}
 use Rattle.niss_text.proofs.attempts.put_attempts.Given as goal
 
 abbrev pub invariant-loop-at : goal.invariant-loop-at
@@ -12,6 +12,9 @@ invariant-loop-at l = record {
   covers : Covers l.text 0 (take l.fn.so_far.lines l.initial.lines) l.fn.so_far.at → l.count ≤ length l.lines → Covers l.text 0 (take l.count l.lines) l.at;
   takes : Takes l.text 0 (take l.fn.so_far.lines l.initial.lines) l.fn.so_far.at → l.count ≤ length l.lines → Takes l.text 0 (take l.count l.lines) l.at;
   counts : Counts l.text 0 l.fn.so_far.lines l.fn.so_far.at → Counts l.text 0 l.count l.at;
+  numbered : l.fn.so_far.attempts ≤ l.fn.so_far.at → l.attempts ≤ l.at;
+  numbers : AreNumbered 0 (take l.fn.so_far.lines l.initial.lines) l.fn.so_far.attempts → l.fn.so_far.attempts ≤ l.fn.so_far.at → l.count ≤ length l.lines →
+      AreNumbered 0 (take l.count l.lines) l.attempts;
   behind : drop l.count l.lines ≡ drop l.count l.initial.lines;
 }
 

@@ -1,11 +1,16 @@
-use Rattle.std.proofs.Common.{◌-◌, ◌≤◌, length, take}
-use Rattle.niss_text.specs.Known.{AreKnown}
+use Rattle.std.proofs.Common.{◌≡◌, ◌-◌, ◌<◌, ◌≤◌, ◌⊎◌, ℕ, length, get_or, take}
+use Rattle.niss_text.specs.declared.known.KnownPart.{KnownPart}
+use Rattle.niss_text.specs.Known.{AreKnown, HaveLines, IsOwn}
 use Rattle.niss_text.proofs.known.assign.Given as goal
 
 abbrev pub invariant-loop-at : goal.invariant-loop-at
 invariant-loop-at l = record {
   within : l.at ≤ length l.parts;
   known : AreKnown (length l.counts) (take l.at l.parts);
+  rest : (k : ℕ) (none : KnownPart) → l.at ≤ k → get_or l.parts k none ≡ get_or l.initial.parts k none;
+  own : (k : ℕ) (none : KnownPart) → k < l.at → ((get_or l.parts k none).scramble ≡ 18446744073709551615)
+      ⊎ IsOwn l.is_in_order l.initial.parts l.counts k (get_or l.parts k none).scramble;
+  lines : (to : ℕ) → HaveLines 0 l.initial.parts to → HaveLines 0 l.parts to;
 }
 
 abbrev pub decreases-loop-at : goal.decreases-loop-at

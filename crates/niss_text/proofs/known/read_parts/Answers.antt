@@ -1,5 +1,7 @@
 use Rattle.std.proofs.Common.{◌≡◌, ◌≤◌, ℕ, length, take, sym, subst, refl, ◌∙◌, arith}
+use Rattle.niss_text.specs.Known.{HaveLines}
 use Rattle.niss_text.specs.Lines.{Takes}
+use Rattle.niss_text.proofs.KnownLemmas.{lines_none}
 use Rattle.niss_text.proofs.LineLemmas.{takes_none, more_behind}
 use Rattle.niss_text.proofs.known.read_parts.Goals as goal
 
@@ -13,6 +15,8 @@ loop-next-init c =
       few = omega (arith, c.nothing-seen.ensures.none);
       takes = λ room. subst (λ (n : ℕ). Takes c.args.text.now 0 (take n c.args.lines.now) c.nothing-seen.result.read.at) (sym begin.1)
           (subst (λ (n : ℕ). Takes c.args.text.now 0 (take 0 c.args.lines.now) n) (sym begin.0) (takes_none c.args.text.now));
+      have = λ room. subst (λ (n : ℕ). HaveLines 0 (take n c.args.parts.now) c.nothing-seen.result.read.lines) (sym c.nothing-seen.ensures.none)
+          (subst (λ (n : ℕ). HaveLines 0 (take 0 c.args.parts.now) n) (sym begin.1) lines_none);
       behind = refl;
     }
 
@@ -28,5 +32,6 @@ loop-next-preserved-then-is_something c =
       same = same ∙ inv.same;
       few = omega (arith, told.one, inv.few, c.first_part-size.ensures.some, c.loop-next-test.true, rest);
       takes = λ room. told.takes (inv.takes (omega (arith, room, same, told.more.1))) room;
+      have = λ room. told.lines (inv.have (omega (arith, room, c.with-seen.auto.parts, told.more.0))) room;
       behind = told.behind_parts ∙ more_behind c.loop-next.parts c.args.parts.now c.loop-next.seen.parts c.with-seen.result.parts told.more.0 inv.behind;
     }

@@ -1,4 +1,5 @@
 use Rattle.std.proofs.Common.{◌≡◌, ◌-◌, ◌≤◌, length, take, drop}
+use Rattle.niss_text.specs.Known.{HaveLines}
 use Rattle.niss_text.specs.Lines.{Takes}
 use Rattle.niss_text.proofs.known.read_parts.Given as goal
 
@@ -9,6 +10,7 @@ invariant-loop-next l = record {
   same : length l.lines ≡ length l.initial.lines;
   few : l.seen.parts ≤ l.next;
   takes : l.seen.read.lines ≤ length l.lines → Takes l.text 0 (take l.seen.read.lines l.lines) l.seen.read.at;
+  have : l.seen.parts ≤ length l.parts → HaveLines 0 (take l.seen.parts l.parts) l.seen.read.lines;
   behind : drop l.seen.parts l.parts ≡ drop l.seen.parts l.initial.parts;
 }
 
