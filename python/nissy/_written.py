@@ -2,8 +2,8 @@
 apostrophe, or is left out. What comes of it is a line for the other calls, or it is at fault there."""
 import re
 from bisect import bisect_right
-from itertools import accumulate, chain, compress
-from typing import Any, Callable, List, NamedTuple, Optional, Sequence, Tuple, Union, overload
+from itertools import accumulate, chain, compress, islice
+from typing import Any, Callable, Iterable, List, NamedTuple, Optional, Sequence, Tuple, Union, overload
 
 from . import _library, _rooms
 from ._given import Text, bytes_of, kind_of
@@ -102,13 +102,19 @@ class Written:
         self._has_pairs = "\r\n" in self.text
         self._is_text = _is_utf8(self.data)
         if self._is_text and len(self.data) > len(self.text):
-            self._characters = [*(count - 1 for count in accumulate(self.data.translate(_BEGINS))), len(self.text)]
+            # the first sign is character 0
+            counts = accumulate(chain((-1,), self.data.translate(_BEGINS)))
+            self._characters = [*islice(counts, 1, None), len(self.text)]
         elif len(self.data) > len(self.text):
             sizes = (len(bytes_of(sign, "")) for sign in self.text)
             self._characters = [*chain(*([at] * size for at, size in enumerate(sizes))), len(self.text)]
 
     def at(self, byte: int) -> int:
         return byte if self._characters is None else self._characters[byte]
+
+    def each_at(self, places: Iterable[int]) -> Iterable[int]:
+        """Returns the character of each byte."""
+        return places if self._characters is None else map(self._characters.__getitem__, places)
 
     def place(self, at: int) -> TextPlace:
         """Returns the place of a character. Lines are looked for once."""
@@ -134,13 +140,13 @@ class Written:
             return line.decode("ascii"), places
         if not self._is_text:
             return None
-        return line.decode(), tuple(map(self.at, compress(places, line.translate(_BEGINS))))
+        return line.decode(), tuple(self.each_at(compress(places, line.translate(_BEGINS))))
 
     def broken(self, line: bytes, places: Sequence[int], left_out: int) -> PlainLine:
         """Returns a line that was written of this text, which isn't UTF-8."""
         # of a sign that has several bytes the first one counts; what a line has of its own isn't of the text
         signs, own, last = [], [], -1
-        for byte, at in zip(line, map(self.at, places)):
+        for byte, at in zip(line, self.each_at(places)):
             if byte in _OWN or at != last:
                 sign = self.text[at : at + 1]
                 signs.append(chr(byte) if byte in _OWN else "\u2019" if sign in _APOSTROPHES else sign)
