@@ -34,11 +34,16 @@ fn behind_frame(text: &[u8]) -> Option<&[u8]>
     Some(&second[1..])
 }
 
-/// Whether the moves of a line end with R' U' F.
+/// Whether one of the bytes is the letter of a turn.
+fn has_turn(text: &[u8]) -> bool {
+    text.iter().any(|byte| matches!(*byte, b'U' | b'D' | b'R' | b'L' | b'F' | b'B'))
+}
+
+/// Whether R' U' F stands in a line, and no turn after it.
 fn ends_with_frame(text: &[u8]) -> bool {
     let mut rest = text;
     while !rest.is_empty() {
-        if rest[0] == b'R' && behind_frame(rest).is_some_and(|end| trimmed(end).is_empty()) {
+        if rest[0] == b'R' && behind_frame(rest).is_some_and(|end| !has_turn(end)) {
             return true;
         }
         rest = &rest[1..];
@@ -46,18 +51,40 @@ fn ends_with_frame(text: &[u8]) -> bool {
     false
 }
 
-/// Whether the moves of a line are all of a scramble, which the WCA has begin and end with R' U' F.
-pub fn is_whole_scramble(body: &[u8]) -> bool {
-    match behind_frame(trimmed(body)) {
-        Some(rest) => {
-            let kind = first_kind(rest);
-            let goes_on = kind == Kind::Prime || kind == Kind::Apostrophe;
-            !goes_on
-                && !rest.is_empty()
-                && rest[0] != b'w'
-                && rest[0] != b'2'
-                && ends_with_frame(rest)
+/// What is after R' U' F in front of a text, if they are there and F is a quarter turn of one layer.
+fn behind_whole_frame(text: &[u8]) -> Option<&[u8]>
+    ensures { IfSome result (λ rest. length rest.now < length text.now) }
+{
+    let rest = behind_frame(text)?;
+    let kind = first_kind(rest);
+    let is_primed = kind == Kind::Prime || kind == Kind::Apostrophe;
+    if is_primed || (!rest.is_empty() && matches!(rest[0], b'w' | b'2')) {
+        None
+    } else {
+        Some(rest)
+    }
+}
+
+/// What is after the first R' U' F of a text.
+fn behind_first_frame(text: &[u8]) -> Option<&[u8]> {
+    let mut rest = text;
+    while !rest.is_empty() {
+        if rest[0] == b'R' {
+            let behind = behind_whole_frame(rest);
+            if behind.is_some() {
+                return behind;
+            }
         }
+        rest = &rest[1..];
+    }
+    None
+}
+
+/// Whether all of a scramble stands in a line, which the WCA has begin and end with R' U' F. What stands beside it is at
+/// fault, or no move.
+pub fn is_whole_scramble(body: &[u8]) -> bool {
+    match behind_first_frame(body) {
+        Some(rest) => behind_first_frame(rest).is_some(),
         None => false,
     }
 }
@@ -74,10 +101,24 @@ pub fn has_frame(text: &[u8]) -> bool {
     false
 }
 
+/// Whether R' U' F stands somewhere in a text twice in a row, as if one scramble ends where another begins.
+fn has_two_frames(text: &[u8]) -> bool {
+    let mut rest = text;
+    while !rest.is_empty() {
+        if rest[0] == b'R'
+            && behind_frame(rest).is_some_and(|next| behind_frame(trimmed(next)).is_some())
+        {
+            return true;
+        }
+        rest = &rest[1..];
+    }
+    false
+}
+
 /// Whether a line begins as all of a scramble does, and goes on after its end.
 pub fn goes_on_behind_scramble(body: &[u8]) -> bool {
     match behind_frame(trimmed(body)) {
-        Some(rest) => has_frame(rest) && !ends_with_frame(rest),
+        Some(rest) => (has_frame(rest) && !ends_with_frame(rest)) || has_two_frames(rest),
         None => false,
     }
 }
