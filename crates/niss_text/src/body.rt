@@ -4,6 +4,7 @@ ghost use Rattle.std.specs.Prelude.{◌≤◌, ◌<◌, length, IfSome};
 use crate::sign::{Kind, first_kind, first_sign, trimmed};
 
 /// What is after a letter with an apostrophe and blanks in front of a text, if they are there.
+#[inline(never)]
 fn behind_primed(text: &[u8], letter: u8) -> Option<&[u8]>
     ensures { IfSome result (λ rest. length rest.now < length text.now) }
 {
@@ -23,6 +24,7 @@ fn behind_primed(text: &[u8], letter: u8) -> Option<&[u8]>
 }
 
 /// What is after R' U' F in front of a text, if they are there.
+#[inline(never)]
 fn behind_frame(text: &[u8]) -> Option<&[u8]>
     ensures { IfSome result (λ rest. length rest.now < length text.now) }
 {
