@@ -20,9 +20,9 @@ pub enum Doubt {
     Nothing,
     /// After all of a scramble the line goes on.
     AnotherScramble,
-    /// Which of several groups is the solution can't be told.
+    /// Which of several groups is the solution can't be told, or a list has those of several scrambles.
     SeveralSolutions,
-    /// A side is named, and the moves have no brackets.
+    /// Another side than the normal one is named, and the moves have no brackets.
     Side,
     /// Letters stand together as moves don't elsewhere in the line.
     Letters,

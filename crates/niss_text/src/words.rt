@@ -137,7 +137,7 @@ fn begins_side(text: &[u8]) -> bool {
         b'p' => word_length(text, b"premov") > 0 || word_length(text, b"pre-mov") > 0,
         b's' => word_length(text, b"switch") > 0 || word_length(text, b"side") > 0,
         b'r' => word_length(text, b"revers") > 0,
-        b'b' => word_length(text, b"backward") > 0,
+        b'b' => word_length(text, b"backward") > 0 || word_length(text, b"back to normal") > 0,
         _ => false,
     }
 }
