@@ -69,9 +69,9 @@ unfoldable pub is_marked : List ℕ → ℕ → Bool
 is_marked text k = (slice_index text k == 91) && (is_digit (slice_index text (k + 1)) && ((slice_index text (k + 2) == 93)
     && (is_letter (slice_index text (k + 3)) || ((slice_index text (k + 3) == 32) && is_letter (slice_index text (k + 4))))))
 
--- What is seen at a place of a text, after the first one of a part of it: a small letter of an outer turn, a capital one,
--- a letter right after the sign of a move (but the w of a wide turn), a letter after something else, an apostrophe, a
--- number of times after brackets, or a digit in square brackets before moves.
+-- What is seen at a place of a text, after the first one of a part of it: a small letter of an outer turn, a capital
+-- one, a letter right after the sign of a move (but the w of a wide turn), a letter after something else, an
+-- apostrophe, a number of times after brackets, or a digit in square brackets before moves.
 unfoldable pub sees : List ℕ → Sight → ℕ → Bool
 sees text Small k = is_small (slice_index text k)
 sees text Capital k = is_capital (slice_index text k)
@@ -95,12 +95,12 @@ pub record IsAsWritten (text : List ℕ) (from to : ℕ) : Type 0 where
   pub apart : (j : ℕ) → from < j → j < to → sees text Parted j ≡ true → IsParted text from to
   pub unprimed : ((j : ℕ) → from ≤ j → j < to → sees text Prime j ≡ false) → IsParted text from to
 
--- What is said to make a line doubtful stands there, and nothing at its end. Nothing is said of a line before a scramble,
--- of another scramble only in one, of several solutions and of moves in comments only in a step, of small letters only in
--- a scramble, or in a step without a capital one. A line of the scramble or of the solution of which nothing is said has
--- no letters together that aren't written as moves, and no number of times after brackets; one of the scramble has no
--- small letter of a turn either, and one of the solution none without a capital one, and no digit in square brackets
--- among its moves.
+-- What is said to make a line doubtful stands there, and nothing at its end. Nothing is said of a line before a
+-- scramble, of another scramble only in one, of several solutions and of moves in comments only in a step, of small
+-- letters only in a scramble, or in a step without a capital one. A line of the scramble or of the solution of which
+-- nothing is said has no letters together that aren't written as moves, and no number of times after brackets; one of
+-- the scramble has no small letter of a turn either, and one of the solution none without a capital one, and no digit
+-- in square brackets among its moves.
 pub record IsDoubted (text : List ℕ) (line : TextLine) : Type 0 where
   pub place : (line.begin ≤ line.doubt_at) × (line.doubt_at ≤ line.end)
   pub nowhere : line.doubt ≡ 0 → line.doubt_at ≡ line.end

@@ -80,8 +80,8 @@ fn letters_at(text: &[u8], from: usize, to: usize) -> usize
     }
 }
 
-/// Where the first small letter of a turn stands in the moves of a step, or where the moves end: not if there is a capital
-/// one too.
+/// Where the first small letter of a turn stands in the moves of a step, or where the moves end: not if there is a
+/// capital one too.
 fn small_alone(text: &[u8], from: usize, to: usize) -> usize
     requires { to ≤ length text.now }
     ensures fits { result ≤ to }

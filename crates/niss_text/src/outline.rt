@@ -59,7 +59,7 @@ fn number_of(text: &[u8], line: &Line) -> Option<usize>
     number_in(&text[..line.head])
 }
 
-/// Whether a text begins with a list of solutions: with a line that names them, and another with moves and the number 1.
+/// Whether a text begins with a list of solutions: with a line that names them, and one with moves and the number 1.
 fn lists_solutions(text: &[u8], numbers: Numbers) -> bool {
     let title = behind_blank_lines(text);
     if title.is_empty() || !names_solutions(title) {
@@ -70,10 +70,10 @@ fn lists_solutions(text: &[u8], numbers: Numbers) -> bool {
     line.head_kind == Head::Number && line.is_moves && number_of(list, &line) == Some(1)
 }
 
-/// What is seen of an attempt before its lines are told: how many bytes it has; where the first line of moves begins, and
-/// the end if there is none; whether that is a whole scramble; whether prose before it is told from it, since a head
-/// stands in it or before it, or since it is one; whether the solutions of several scrambles follow it; and which numbers
-/// begin the next attempt.
+/// What is seen of an attempt before its lines are told: how many bytes it has; where the first line of moves begins,
+/// and the end if there is none; whether that is a whole scramble; whether prose before it is told from it, since a
+/// head stands in it or before it, or since it is one; whether the solutions of several scrambles follow it; and which
+/// numbers begin the next attempt.
 #[derive(Clone, Copy)]
 pub struct Outline {
     pub length: usize,
@@ -116,8 +116,8 @@ impl Outline {
         seen
     }
 
-    /// Before a list of solutions, whose numbers begin no attempt: they are of several scrambles if that in front of this
-    /// one isn't 1.
+    /// Before a list of solutions, whose numbers begin no attempt: they are of several scrambles if that in front of
+    /// this one isn't 1.
     fn before_list(self, number: Option<usize>) -> Outline
         ensures { (result.length ≡ self.length) × (result.first ≡ self.first) }
     {

@@ -125,8 +125,8 @@ pub fn first_topic(text: &[u8]) -> Option<Topic> {
     }
 }
 
-/// Whether a text begins with letters by which solvers name another side of the cube than the normal one, on which moves
-/// are read anyway, or a change of it.
+/// Whether a text begins with letters by which solvers name another side of the cube than the normal one, on which
+/// moves are read anyway, or a change of it.
 fn begins_side(text: &[u8]) -> bool {
     if text.is_empty() {
         return false;
