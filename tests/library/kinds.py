@@ -119,6 +119,7 @@ def doubts(tally: Tally) -> None:
         f"{FIRST} R U": ("another scramble", 1, 1),
         "R U F\n\nEO: D\n\nDR: L\n\nD L B": ("several solutions", 3, 5),
         "R U F\n\nR U // premoves\nF' // EO": ("side", 3, 8),
+        "R U F\n\nR' U' // EO\nback to normal\nF' // DR": ("side", 4, 1),
         "R U F\n\nF' U' R LUL": ("letters", 3, 10),
         "r u f\n\nF' U' R'": ("small letters", 1, 1),
         "R U F\n\nf' u' r'": ("small letters", 3, 1),
