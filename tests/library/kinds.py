@@ -119,8 +119,11 @@ def doubts(tally: Tally) -> None:
         f"{FIRST} R U": ("another scramble", 1, 1),
         "R U F\n\nEO: D\n\nDR: L\n\nD L B": ("several solutions", 3, 5),
         "R U F\n\nR U // premoves\nF' // EO": ("side", 3, 8),
+        "R U F\n\nR' U' // EO\nback to normal\nF' // DR": ("side", 4, 1),
         "R U F\n\nF' U' R LUL": ("letters", 3, 10),
         "r u f\n\nF' U' R'": ("small letters", 1, 1),
+        "R U F\n\nf' u' r'": ("small letters", 3, 1),
+        "2. R U F\n\nSolutions:\n1. D\n2. F' U' R'": ("several solutions", 4, 4),
         "R U F\n\nF' // EO U' R' D": ("comment", 3, 4),
         "R U R U\n\n(U' R') x2": ("repetition", 3, 9),
         "R U R U\n\n(U' R')\u00d72": ("repetition", 3, 8),
@@ -135,7 +138,8 @@ def doubts(tally: Tally) -> None:
     for text, wanted in texts.items():
         (told,) = [it.doubt for it in nissy.check_attempts(text)]
         tally.equal(f"the doubt of {text!r}", told and (told.reason, told.place.line, told.place.column), wanted)
-    for text in ("R U F\n\nF' U' R'", "R U F\n\nF' U' R", "R'U'F\n\nF'U'R", "R U F"):
+    undoubted = ("R U F\n\nF' U' R'", "R U F\n\nF' U' R", "R'U'F\n\nF'U'R", "R U F", "R U F\n\nf' u' R'")
+    for text in (*undoubted, "R U F\n\nF' U' R // on normal", "1. R U F\n\nSolutions:\n1. F' U' R'"):
         tally.equal(f"no doubt of {text!r}", [it.doubt for it in nissy.check_attempts(text)], [None])
 
 

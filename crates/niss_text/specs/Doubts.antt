@@ -4,7 +4,7 @@ use Rattle.niss_text.specs.Signs.{is_digit, is_within}
 use Rattle.niss_text.specs.declared.doubts.Doubt.{Doubt}
 use Rattle.niss_text.specs.declared.doubts.Doubt.TheVariants.{Nothing, AnotherScramble, SeveralSolutions, Side, Letters, SmallLetters, Comment, Repetition, Insertion}
 use Rattle.niss_text.specs.declared.sights.Sight.{Sight}
-use Rattle.niss_text.specs.declared.sights.Sight.TheVariants.{Small, Joined, Parted, Prime, Repeated, Marked}
+use Rattle.niss_text.specs.declared.sights.Sight.TheVariants.{Small, Capital, Joined, Parted, Prime, Repeated, Marked}
 use Rattle.niss_text.specs.declared.text_line.TextLine.{TextLine}
 
 abbrev pub number_of : Doubt → ℕ
@@ -33,6 +33,10 @@ ends_move b = is_letter b || (is_digit b || is_prime b)
 -- a small letter of an outer turn: u, d, r, l, f, b
 abbrev pub is_small : ℕ → Bool
 is_small b = (b == 117) || ((b == 100) || ((b == 114) || ((b == 108) || ((b == 102) || (b == 98)))))
+
+-- a capital letter of an outer turn: U, D, R, L, F, B
+abbrev pub is_capital : ℕ → Bool
+is_capital b = (b == 85) || ((b == 68) || ((b == 82) || ((b == 76) || ((b == 70) || (b == 66)))))
 
 -- a closed bracket
 abbrev pub closes : ℕ → Bool
@@ -65,11 +69,12 @@ unfoldable pub is_marked : List ℕ → ℕ → Bool
 is_marked text k = (slice_index text k == 91) && (is_digit (slice_index text (k + 1)) && ((slice_index text (k + 2) == 93)
     && (is_letter (slice_index text (k + 3)) || ((slice_index text (k + 3) == 32) && is_letter (slice_index text (k + 4))))))
 
--- What is seen at a place of a text, after the first one of a part of it: a small letter, a letter right after the sign
--- of a move (but the w of a wide turn), a letter after something else, an apostrophe, a number of times after brackets,
--- or a digit in square brackets before moves.
+-- What is seen at a place of a text, after the first one of a part of it: a small letter of an outer turn, a capital
+-- one, a letter right after the sign of a move (but the w of a wide turn), a letter after something else, an
+-- apostrophe, a number of times after brackets, or a digit in square brackets before moves.
 unfoldable pub sees : List ℕ → Sight → ℕ → Bool
 sees text Small k = is_small (slice_index text k)
+sees text Capital k = is_capital (slice_index text k)
 sees text Joined k = ends_move (slice_index text (k - 1)) && (is_letter (slice_index text k) && not (slice_index text k == 119))
 sees text Parted k = not (ends_move (slice_index text (k - 1))) && is_letter (slice_index text k)
 sees text Prime k = is_prime (slice_index text k)
@@ -90,11 +95,12 @@ pub record IsAsWritten (text : List ℕ) (from to : ℕ) : Type 0 where
   pub apart : (j : ℕ) → from < j → j < to → sees text Parted j ≡ true → IsParted text from to
   pub unprimed : ((j : ℕ) → from ≤ j → j < to → sees text Prime j ≡ false) → IsParted text from to
 
--- What is said to make a line doubtful stands there, and nothing at its end. Nothing is said of a line before a scramble,
--- of another scramble only in one, of several solutions and of moves in comments only in a step. A line of the scramble
--- or of the solution of which nothing is said has no letters together that aren't written as moves, and no number of
--- times after brackets; one of the scramble has no small letter of a turn either, and one of the solution no digit in
--- square brackets among its moves.
+-- What is said to make a line doubtful stands there, and nothing at its end. Nothing is said of a line before a
+-- scramble, of another scramble only in one, of several solutions and of moves in comments only in a step, of small
+-- letters only in a scramble, or in a step without a capital one. A line of the scramble or of the solution of which
+-- nothing is said has no letters together that aren't written as moves, and no number of times after brackets; one of
+-- the scramble has no small letter of a turn either, and one of the solution none without a capital one, and no digit
+-- in square brackets among its moves.
 pub record IsDoubted (text : List ℕ) (line : TextLine) : Type 0 where
   pub place : (line.begin ≤ line.doubt_at) × (line.doubt_at ≤ line.end)
   pub nowhere : line.doubt ≡ 0 → line.doubt_at ≡ line.end
@@ -102,11 +108,14 @@ pub record IsDoubted (text : List ℕ) (line : TextLine) : Type 0 where
   pub another : line.doubt ≡ 1 → line.kind ≡ 2
   pub several : line.doubt ≡ 2 → line.kind ≡ 3
   pub comment : line.doubt ≡ 6 → line.kind ≡ 3
-  pub small : line.doubt ≡ 5 → (line.kind ≡ 2) × (sees text Small line.doubt_at ≡ true)
+  pub small : line.doubt ≡ 5 → ((2 ≤ line.kind) × (line.kind ≤ 3)) × (sees text Small line.doubt_at ≡ true)
+  pub no_capital : line.doubt ≡ 5 → line.kind ≡ 3 → HasNone text Capital line.moves line.comment
   pub letters : line.doubt ≡ 4 → sees text Joined line.doubt_at ≡ true
   pub scramble : line.doubt ≡ 0 → line.kind ≡ 2 → IsAsWritten text line.moves line.comment
   pub solution : line.doubt ≡ 0 → line.kind ≡ 3 → line.is_solution ≡ 1 → IsAsWritten text line.moves line.comment
   pub no_small : line.doubt ≡ 0 → line.kind ≡ 2 → HasNone text Small line.moves line.comment
+  pub capital : line.doubt ≡ 0 → line.kind ≡ 3 → line.is_solution ≡ 1 → HasNone text Capital line.moves line.comment →
+      HasNone text Small line.moves line.comment
   pub once : line.doubt ≡ 0 → line.kind ≡ 2 → HasNone text Repeated line.moves line.comment
   pub once_solved : line.doubt ≡ 0 → line.kind ≡ 3 → line.is_solution ≡ 1 → HasNone text Repeated line.moves line.comment
   pub unmarked : line.doubt ≡ 0 → line.kind ≡ 3 → line.is_solution ≡ 1 → HasNone text Marked (line.moves + 1) line.comment

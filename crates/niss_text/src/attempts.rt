@@ -62,7 +62,11 @@ fn first_attempt(text: &[u8], numbers: Numbers, number: usize) -> Attempt
         number,
         numbers,
         is_formed: seen.has_name || solutions.has_lines,
-        solution: solutions.group(),
+        solution: if seen.has_several {
+            None
+        } else {
+            solutions.group()
+        },
         first: seen.first,
         scramble_end,
         length: seen.length,

@@ -3,7 +3,7 @@ ghost use Rattle.std.specs.Prelude.{◌≡◌, ◌≤◌, ◌<◌, ◌+◌, true
 ghost use Rattle.niss_text.specs.Doubts.{IsDoubted, IsAsWritten, HasNone, number_of, sees};
 ghost use Rattle.niss_text.specs.Lines.{IsLine};
 ghost use Rattle.niss_text.specs.declared.doubts.Doubt.TheVariants.{Nothing, Letters, SmallLetters};
-ghost use Rattle.niss_text.specs.declared.sights.Sight.TheVariants.{Small, Joined, Repeated, Marked};
+ghost use Rattle.niss_text.specs.declared.sights.Sight.TheVariants.{Small, Capital, Joined, Repeated, Marked};
 
 use crate::body::goes_on_behind_scramble;
 use crate::forms::has_bracket;
@@ -20,13 +20,13 @@ pub enum Doubt {
     Nothing,
     /// After all of a scramble the line goes on.
     AnotherScramble,
-    /// Which of several groups is the solution can't be told.
+    /// Which of several groups is the solution can't be told, or a list has those of several scrambles.
     SeveralSolutions,
-    /// A side is named, and the moves have no brackets.
+    /// Another side than the normal one is named, and the moves have no brackets.
     Side,
     /// Letters stand together as moves don't elsewhere in the line.
     Letters,
-    /// A scramble has a move in a small letter.
+    /// A scramble has a move in a small letter, or a step has no others.
     SmallLetters,
     /// Three moves or more stand one after another in a comment.
     Comment,
@@ -77,6 +77,22 @@ fn letters_at(text: &[u8], from: usize, to: usize) -> usize
         joined
     } else {
         to
+    }
+}
+
+/// Where the first small letter of a turn stands in the moves of a step, or where the moves end: not if there is a
+/// capital one too.
+fn small_alone(text: &[u8], from: usize, to: usize) -> usize
+    requires { to ≤ length text.now }
+    ensures fits { result ≤ to }
+    ensures seen { result < to → (from ≤ result) × (sees text.now Small result ≡ true) }
+    ensures alone { result < to → HasNone text.now Capital from to }
+    ensures none { result ≡ to → HasNone text.now Capital from to → HasNone text.now Small from to }
+{
+    if first_seen(text, from, to, Sight::Capital) < to {
+        to
+    } else {
+        first_seen(text, from, to, Sight::Small)
     }
 }
 
@@ -145,9 +161,13 @@ fn doubt_of_step(text: &[u8], told: &TextLine, slashes: usize, has_solution: boo
     requires fits { told.now.end ≤ length text.now }
     requires slashes { (told.now.comment ≤ slashes) × (slashes ≤ told.now.end) }
     ensures place { (told.now.begin ≤ result.1) × (result.1 ≤ told.now.end) }
-    ensures others { (number_of result.0 ≡ 4 → ⊥) × (number_of result.0 ≡ 5 → ⊥) }
+    ensures others { number_of result.0 ≡ 4 → ⊥ }
     ensures one { number_of result.0 ≡ 1 → ⊥ }
     ensures nowhere { result.0 ≡ Nothing → result.1 ≡ told.now.end }
+    ensures small { result.0 ≡ SmallLetters → sees text.now Small result.1 ≡ true }
+    ensures no_capital { result.0 ≡ SmallLetters → HasNone text.now Capital told.now.moves told.now.comment }
+    ensures capital { result.0 ≡ Nothing → HasNone text.now Capital told.now.moves told.now.comment →
+        HasNone text.now Small told.now.moves told.now.comment }
     ensures unmarked { result.0 ≡ Nothing → HasNone text.now Marked (told.now.moves + 1) told.now.comment }
 {
     if has_three_moves(&text[slashes..told.end]) {
@@ -172,6 +192,10 @@ fn doubt_of_step(text: &[u8], told: &TextLine, slashes: usize, has_solution: boo
     if marked < told.comment {
         return (Doubt::Insertion, marked);
     }
+    let small = small_alone(text, told.moves, told.comment);
+    if small < told.comment {
+        return (Doubt::SmallLetters, small);
+    }
     (Doubt::Nothing, told.end)
 }
 
@@ -185,8 +209,11 @@ fn doubt_of_moves(text: &[u8], told: &TextLine, line: &Line, has_solution: bool)
     ensures nowhere { result.0 ≡ Nothing → result.1 ≡ told.now.end }
     ensures another { number_of result.0 ≡ 1 → told.now.kind ≡ 2 }
     ensures of_step { told.now.kind ≡ 2 → (number_of result.0 ≡ 2 → ⊥) × (number_of result.0 ≡ 6 → ⊥) }
-    ensures kind { result.0 ≡ SmallLetters → told.now.kind ≡ 2 }
     ensures small { result.0 ≡ SmallLetters → sees text.now Small result.1 ≡ true }
+    ensures no_capital { result.0 ≡ SmallLetters → (told.now.kind ≡ 2 → ⊥) →
+        HasNone text.now Capital told.now.moves told.now.comment }
+    ensures capital { result.0 ≡ Nothing → told.now.kind ≡ 3 → HasNone text.now Capital told.now.moves told.now.comment →
+        HasNone text.now Small told.now.moves told.now.comment }
     ensures letters { result.0 ≡ Letters → sees text.now Joined result.1 ≡ true }
     ensures none { result.0 ≡ Nothing → IsAsWritten text.now told.now.moves told.now.comment }
     ensures once { result.0 ≡ Nothing → HasNone text.now Repeated told.now.moves told.now.comment }
@@ -231,7 +258,10 @@ fn doubt_of(text: &[u8], told: &TextLine, line: &Line, has_solution: bool) -> (D
     ensures another { number_of result.0 ≡ 1 → told.now.kind ≡ 2 }
     ensures several { number_of result.0 ≡ 2 → told.now.kind ≡ 3 }
     ensures comment { number_of result.0 ≡ 6 → told.now.kind ≡ 3 }
-    ensures small { result.0 ≡ SmallLetters → (told.now.kind ≡ 2) × (sees text.now Small result.1 ≡ true) }
+    ensures small { result.0 ≡ SmallLetters → ((2 ≤ told.now.kind) × (told.now.kind ≤ 3)) × (sees text.now Small result.1 ≡ true) }
+    ensures no_capital { result.0 ≡ SmallLetters → told.now.kind ≡ 3 → HasNone text.now Capital told.now.moves told.now.comment }
+    ensures capital { result.0 ≡ Nothing → told.now.kind ≡ 3 → told.now.is_solution ≡ 1 →
+        HasNone text.now Capital told.now.moves told.now.comment → HasNone text.now Small told.now.moves told.now.comment }
     ensures letters { result.0 ≡ Letters → sees text.now Joined result.1 ≡ true }
     ensures scramble { result.0 ≡ Nothing → told.now.kind ≡ 2 → IsAsWritten text.now told.now.moves told.now.comment }
     ensures solution { result.0 ≡ Nothing → told.now.kind ≡ 3 → told.now.is_solution ≡ 1 → IsAsWritten text.now told.now.moves told.now.comment }

@@ -1,7 +1,8 @@
 //! Where the attempts of a stretch begin and end, and their scrambles.
 ghost use Rattle.std.specs.Prelude.{◌≡◌, ◌≤◌, ◌<◌, length};
 
-use crate::line::{Head, Line, Numbers, first_line, may_begin, whole_length};
+use crate::line::{Head, Line, Numbers, first_line, may_begin, names_solutions, whole_length};
+use crate::parts::number_in;
 use crate::stretches::is_open;
 
 /// Whether a line is the head of a scramble.
@@ -40,21 +41,53 @@ fn next_at(text: &[u8], numbers: Numbers, is_numbered: bool) -> Next {
     }
 }
 
-/// What is seen of an attempt before its lines are told: how many bytes it has; where the first line of moves begins, and
-/// the end if there is none; whether that is a whole scramble; and whether prose before it is told from it, since a
-/// head stands in it or before it, or since it is one.
+/// What is after the blank lines that a text begins with.
+fn behind_blank_lines(text: &[u8]) -> &[u8]
+    ensures { length result.now ≤ length text.now }
+{
+    let mut rest = text;
+    while !rest.is_empty() && first_line(rest, Numbers::OfLines).is_blank {
+        rest = &rest[whole_length(rest)..];
+    }
+    rest
+}
+
+/// The number of the head of a line, which is the first one of a text.
+fn number_of(text: &[u8], line: &Line) -> Option<usize>
+    requires { line.now.length ≤ length text.now }
+{
+    number_in(&text[..line.head])
+}
+
+/// Whether a text begins with a list of solutions: with a line that names them, and one with moves and the number 1.
+fn lists_solutions(text: &[u8], numbers: Numbers) -> bool {
+    let title = behind_blank_lines(text);
+    if title.is_empty() || !names_solutions(title) {
+        return false;
+    }
+    let list = behind_blank_lines(&title[whole_length(title)..]);
+    let line = first_line(list, numbers);
+    line.head_kind == Head::Number && line.is_moves && number_of(list, &line) == Some(1)
+}
+
+/// What is seen of an attempt before its lines are told: how many bytes it has; where the first line of moves begins,
+/// and the end if there is none; whether that is a whole scramble; whether prose before it is told from it, since a
+/// head stands in it or before it, or since it is one; whether the solutions of several scrambles follow it; and which
+/// numbers begin the next attempt.
 #[derive(Clone, Copy)]
 pub struct Outline {
     pub length: usize,
     pub first: usize,
     pub is_whole: bool,
     pub has_name: bool,
+    pub has_several: bool,
     is_found: bool,
+    numbers: Numbers,
 }
 
 impl Outline {
     /// Of an attempt without lines.
-    fn nothing() -> Outline
+    fn nothing(numbers: Numbers) -> Outline
         ensures { (result.length ≡ 0) × (result.first ≡ 0) }
     {
         Outline {
@@ -63,6 +96,8 @@ impl Outline {
             is_found: false,
             is_whole: false,
             has_name: false,
+            has_several: false,
+            numbers,
         }
     }
 
@@ -79,6 +114,18 @@ impl Outline {
             seen.first = at;
         }
         seen
+    }
+
+    /// Before a list of solutions, whose numbers begin no attempt: they are of several scrambles if that in front of
+    /// this one isn't 1.
+    fn before_list(self, number: Option<usize>) -> Outline
+        ensures { (result.length ≡ self.length) × (result.first ≡ self.first) }
+    {
+        Outline {
+            has_several: number != Some(1),
+            numbers: Numbers::OfLines,
+            ..self
+        }
     }
 
     /// If the attempt has that many bytes.
@@ -101,13 +148,13 @@ pub fn outline_of(text: &[u8], numbers: Numbers) -> Outline
     ensures some { 0 < length text.now → 0 < result.length }
 {
     let mut rest = text;
-    let mut seen = Outline::nothing();
+    let mut seen = Outline::nothing(numbers);
     let mut has_moves = false;
     let mut number = 0;
     while !rest.is_empty() {
         let at = text.len() - rest.len();
         if has_moves {
-            match next_at(rest, numbers, number > 0) {
+            match next_at(rest, seen.numbers, number > 0) {
                 Next::Begins => return seen.ended(at),
                 Next::HasMoves if number > 0 => return seen.ended(number),
                 Next::MayBegin if number == 0 => number = at,
@@ -117,6 +164,9 @@ pub fn outline_of(text: &[u8], numbers: Numbers) -> Outline
             let line = first_line(rest, numbers);
             has_moves = is_open(&line);
             seen = seen.after(&line, at);
+            if has_moves && lists_solutions(&rest[whole_length(rest)..], numbers) {
+                seen = seen.before_list(number_of(rest, &line));
+            }
         }
         rest = &rest[whole_length(rest)..];
     }

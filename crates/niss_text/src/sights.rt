@@ -1,6 +1,6 @@
 //! What is looked for at each place of a line, and where it is seen first.
 ghost use Rattle.std.specs.Prelude.{◌≡◌, ◌≤◌, ◌<◌, ℕ, true, false, length, slice_index};
-ghost use Rattle.niss_text.specs.Doubts.{is_small, is_prime, is_letter, ends_move, closes, is_times, is_cross, last_of_times};
+ghost use Rattle.niss_text.specs.Doubts.{is_small, is_capital, is_prime, is_letter, ends_move, closes, is_times, is_cross, last_of_times};
 ghost use Rattle.niss_text.specs.Doubts.{is_after_bracket, is_before_digit, is_repeated, is_marked, sees, HasNone};
 
 use crate::sign::is_digit_byte;
@@ -10,6 +10,8 @@ use crate::sign::is_digit_byte;
 pub enum Sight {
     /// A small letter of an outer turn.
     Small,
+    /// A capital letter of an outer turn.
+    Capital,
     /// A letter right after the sign of a move.
     Joined,
     /// A letter after something else.
@@ -48,6 +50,13 @@ fn is_small(byte: u8) -> bool
     ensures { result ≡ is_small byte }
 {
     matches!(byte, b'u' | b'd' | b'r' | b'l' | b'f' | b'b')
+}
+
+/// Whether a byte is a capital letter of an outer turn.
+fn is_capital(byte: u8) -> bool
+    ensures { result ≡ is_capital byte }
+{
+    matches!(byte, b'U' | b'D' | b'R' | b'L' | b'F' | b'B')
 }
 
 /// Whether a byte closes a bracket.
@@ -135,6 +144,7 @@ fn sees(text: &[u8], sight: Sight, at: usize) -> bool
     let byte = text[at];
     match sight {
         Sight::Small => is_small(byte),
+        Sight::Capital => is_capital(byte),
         Sight::Joined => ends_move(before) && (is_letter(byte) && byte != b'w'),
         Sight::Parted => !ends_move(before) && is_letter(byte),
         Sight::Prime => is_prime(byte),

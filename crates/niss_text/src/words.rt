@@ -104,7 +104,7 @@ pub fn says(text: &[u8], wanted: Wanted) -> bool {
 /// What solvers say of moves beside what step they are, and what their reading hangs on.
 #[derive(Clone, Copy, PartialEq, Eq)]
 pub enum Topic {
-    /// A side of the cube, or a change of it.
+    /// Another side of the cube than the normal one, or a change of it.
     Side,
     /// Moves that are made several times.
     Repetition,
@@ -125,18 +125,19 @@ pub fn first_topic(text: &[u8]) -> Option<Topic> {
     }
 }
 
-/// Whether a text begins with letters by which solvers name a side of the cube, or a change of it.
+/// Whether a text begins with letters by which solvers name another side of the cube than the normal one, on which
+/// moves are read anyway, or a change of it.
 fn begins_side(text: &[u8]) -> bool {
     if text.is_empty() {
         return false;
     }
     match small(text[0]) {
         b'i' => word_length(text, b"inv") > 0,
-        b'n' => word_length(text, b"niss") > 0 || word_length(text, b"normal") > 0,
+        b'n' => word_length(text, b"niss") > 0,
         b'p' => word_length(text, b"premov") > 0 || word_length(text, b"pre-mov") > 0,
         b's' => word_length(text, b"switch") > 0 || word_length(text, b"side") > 0,
         b'r' => word_length(text, b"revers") > 0,
-        b'b' => word_length(text, b"backward") > 0,
+        b'b' => word_length(text, b"backward") > 0 || word_length(text, b"back to normal") > 0,
         _ => false,
     }
 }
