@@ -2,7 +2,7 @@
 import { AXES, type Facts } from "../../module/shared/facts.js";
 import { stickersOf } from "../../module/shared/stickers.js";
 import { present } from "../shared/certain.js";
-import { element, part, tell } from "../shared/element.js";
+import { announce, element, part, spoken, tell } from "../shared/element.js";
 import { emptyNet, showCube, stickerOf } from "./net.js";
 import {
   SIDES, axisName, bracketed, nameOfSide, newlyReached, singleMoves, type Side,
@@ -190,7 +190,9 @@ export class Nets {
 
   async #step(by: number) {
     this.stop();
-    if (await this.#load()) this.#go(this.#frame + by);
+    if (!(await this.#load())) return;
+    this.#go(this.#frame + by);
+    announce(spoken(`${part("played").textContent}${part("marked-normal").textContent}`));
   }
 
   #go(frame: number) {

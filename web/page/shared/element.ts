@@ -36,7 +36,8 @@ export const button = (text: string, attributes: Attributes) =>
 
 /** Shows text in an element, and hides the element where there is none. */
 export function tell(where: HTMLElement, text: string) {
-  where.textContent = text;
+  // what stays isn't said again
+  if (where.textContent !== text) where.textContent = text;
   where.hidden = text === "";
 }
 
