@@ -126,8 +126,9 @@ export class Nets {
     const piece = PIECES[part("piece").selectedIndex - 1];
     const { views, choice } = this.#shown();
     const why = (side: Side) => whyOf(views[side].letters, piece, choice);
-    const sentences = this.#asked.map((side) => `${nameOfSide(side)}: ${piece && why(side)}`);
-    tell(part("why"), piece ? sentences.join(" ") : "");
+    const words = piece ? this.#asked.map((side) => `${nameOfSide(side)}: ${why(side)}`).join(" ") : "";
+    // what stays as it was isn't said again
+    if (words !== part("why").textContent) tell(part("why"), words);
   }
 
   #enlarge(isLarge: boolean) {

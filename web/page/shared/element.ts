@@ -36,8 +36,7 @@ export const button = (text: string, attributes: Attributes) =>
 
 /** Shows text in an element, and hides the element where there is none. */
 export function tell(where: HTMLElement, text: string) {
-  // what stays isn't said again
-  if (where.textContent !== text) where.textContent = text;
+  where.textContent = text;
   where.hidden = text === "";
 }
 
