@@ -67,9 +67,7 @@ def tells_why(tally: Tally, browser: Browser) -> None:
     browser.go("#scramble=F")
     browser.choose("marks", "EO F/B")
     rule = "(U or D tells, else F or B)"
-    tally.equal(
-        "UF", browser.script(PRESS, 7), f"Normal: FL at UF is bad for EO F/B: its F is on F, not on U {rule}."
-    )
+    tally.equal("UF", browser.script(PRESS, 7), f"Normal: FL at UF is bad for EO F/B: its F is on F, not on U {rule}.")
     tally.equal("UR", browser.script(PRESS, 5), f"Normal: UR is good for EO F/B: its U is on U {rule}.")
     # an edge is in its slice or not by its colours, which is no reason for where it is
     browser.choose("marks", "DR U/D")
