@@ -4,7 +4,7 @@ from itertools import combinations
 
 from attempts import PASTE
 from best import ROWS
-from browser import LAST_STEP_AWAY, Browser
+from browser import Browser
 from program import program_answers
 from steps import ADDRESS, EXAMPLE, SCRAMBLE
 from tally import Tally
@@ -192,7 +192,7 @@ def keeps_what_is_gone_on_to(tally: Tally, browser: Browser) -> None:
     tally.equal("which the button says", browser.script(pressed, "#keep-line"), "true")
     browser.click("#solutions-close")
     tally.equal("without the list the line alone isn't kept", browser.script(pressed, "#keep-line"), "false")
-    browser.act(LAST_STEP_AWAY)
+    browser.press("u")
     browser.wait_best()
     tally.equal("the row has its star", browser.script(pressed, "#best-body .star"), "true")
 
