@@ -51,7 +51,7 @@ STATES = (
         BOTH,
         PRESS % "#line-list button" + FIELD % ("#line-list input", "(B D)") + "field.form.requestSubmit()",
     ),
-    ("an undo", BOTH, PRESS % "#undo-step"),
+    ("an undo", BOTH, PRESS % "#line-list li:last-child .acts button:nth-child(2)"),
     ("a step that goes to the other side", BOTH, PRESS % "#line-list li button:last-child"),
 )
 # wide, with all of them, and as a phone has it, with these

@@ -2,7 +2,7 @@
 import re
 import time
 
-from browser import Browser
+from browser import LAST_STEP_AWAY, Browser
 from program import program_answers
 from tally import Tally
 from wanted import TITLES
@@ -132,7 +132,7 @@ def filters_reductions(tally: Tally, browser: Browser, count: int) -> None:
     browser.click("#best-cases-chips button")
     left = re.match(rf"([0-9]+) of {count} rows", browser.text("best-note"))
     tally.holds(f"one leaves some: {browser.text('best-note')}", left and 0 < int(left[1]) < count)
-    browser.act("#undo-step")
+    browser.act(LAST_STEP_AWAY)
     browser.wait_best()
     tally.equal("before an orientation they are", browser.script(SHOWN_FILTERS), True)
     browser.script("history.back()")

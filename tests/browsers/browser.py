@@ -26,6 +26,8 @@ HELD = """const { postMessage } = Worker.prototype;
     };
     window.goOn = () => { Worker.prototype.postMessage = postMessage; window.held.forEach((send) => send()); };
 """
+# what takes the last step of a line away
+LAST_STEP_AWAY = "#line-list li:last-child .acts button:nth-child(2)"
 # a method with its words, and each look with what is wanted of it
 Step = tuple[Any, ...]
 # what may be looked for by a short name, beside what `look` says

@@ -62,6 +62,12 @@ def beside_each_other(tally: Tally, browser: Browser) -> None:
     tally.holds("they come", browser.until("return document.querySelector('#comparison').open"))
     said = browser.texts("#comparison > .note")
     tally.equal("it is said what isn't counted", ["don't reach the step earlier" in each for each in said], [True])
+    browser.resize(1440, 900)
+    tally.holds(
+        "a laptop has room for all of them",
+        browser.script("return part('comparison').scrollHeight <= part('comparison').clientHeight"),
+    )
+    browser.resize()
     shown = {each["line"]: each for each in browser.script(SHOWN)}
     tally.equal("each of them", set(shown), set(map(line_of, (EO, OTHER, DR, LAST))))
     for made in (EO, OTHER, DR, LAST):

@@ -4,7 +4,7 @@ import unicodedata
 from pathlib import Path
 from urllib.parse import unquote, urlparse
 
-from browser import Browser
+from browser import LAST_STEP_AWAY, Browser
 from tally import Tally
 from wanted import TITLES, Position, fault_column
 
@@ -203,7 +203,7 @@ def together(tally: Tally, browser: Browser) -> None:
         ("fill", "scramble", LONG, {}),
         ("submit", "own", "R U F D L", {}),
         ("comes", "alert", said, {}),
-        ("act", "#undo-step", {"alert": ""}),
+        ("act", LAST_STEP_AWAY, {"alert": ""}),
     )
 
 

@@ -192,7 +192,7 @@ def keeps_what_is_gone_on_to(tally: Tally, browser: Browser) -> None:
     tally.equal("which the button says", browser.script(pressed, "#keep-line"), "true")
     browser.click("#solutions-close")
     tally.equal("without the list the line alone isn't kept", browser.script(pressed, "#keep-line"), "false")
-    browser.act("#undo-step")
+    browser.press("u")
     browser.wait_best()
     tally.equal("the row has its star", browser.script(pressed, "#best-body .star"), "true")
 

@@ -1,6 +1,6 @@
 """From a scramble to a finished skeleton on both sides, by keyboard alone, and what the page keeps in its address."""
 from addresses import is_shown
-from browser import Browser, Keys
+from browser import LAST_STEP_AWAY, Browser, Keys
 from tally import Tally
 from wanted import TITLES, Position, answer
 
@@ -96,7 +96,7 @@ def switch(tally: Tally, browser: Browser) -> None:
     browser.walk(
         tally,
         "moves are taken back",
-        ("tab_to", "undo-step", 60, True, {}),
+        ("tab_to", "Remove", 60, True, {}),
         ("press", Keys.ENTER, {"bracketed": f"({FIRST})"}),
         ("tab_to", "own", 60, {}),
         ("press", "R B'", Keys.ENTER, {}),
@@ -138,7 +138,7 @@ def keep(tally: Tally, browser: Browser) -> None:
     browser.walk(
         tally,
         "an emptied skeleton",
-        ("act", "#undo-step", {}),
+        ("act", LAST_STEP_AWAY, {}),
         ("act", "#clear", {"bracketed": "", "line-empty?": True}),
     )
     shows(tally, browser, "an emptied skeleton")

@@ -1,6 +1,6 @@
 """What is done with the line so far: it is copied and read again, edited and played, by keys too, and how it ends."""
 from best import LONGER, address_of
-from browser import HELD, Browser, Keys
+from browser import HELD, LAST_STEP_AWAY, Browser, Keys
 from kept import KEPT_SAID
 from steps import ADDRESS, EXAMPLE
 from tally import Tally
@@ -187,7 +187,7 @@ def keys_rest(tally: Tally, browser: Browser) -> None:
         ("press", *"1iusn", fault),
         ("fill", "scramble", "R U F", {}),
     )
-    browser.script(SLOW + f";{BLUR}; part('undo-step').click(); {BLUR}")
+    browser.script(SLOW + f";{BLUR}; document.querySelector(arguments[0]).click(); {BLUR}", LAST_STEP_AWAY)
     browser.walk(tally, "while the next cells are looked for", ("press", "1", {"hash": "#scramble=R_U_F"}))
     browser.resize(640, 740)
     browser.walk(
@@ -267,4 +267,4 @@ def premoves(tally: Tally, browser: Browser) -> None:
         browser.walk(
             tally, "premoves", ("go", f"#scramble=U_R&steps={steps}", {"joined-note": said, "content joined": joined})
         )
-    browser.walk(tally, "without them", ("act", "#undo-step", {}), ("act", "#undo-step", {"joined-note": ""}))
+    browser.walk(tally, "without them", ("act", LAST_STEP_AWAY, {}), ("act", LAST_STEP_AWAY, {"joined-note": ""}))

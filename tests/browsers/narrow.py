@@ -57,6 +57,14 @@ IN_VIEW = """
 BROKEN = """
     return all("#solutions-groups .take").filter((each) => each.textContent.split(" ").length <= 8
         && each.clientHeight >= 2 * parseFloat(getComputedStyle(each).lineHeight)).map((each) => each.textContent)"""
+# rows of the best in which what is reached and what follows don't stand on one line
+UNEVEN = """const top = (words) => {
+        const range = document.createRange();
+        range.selectNodeContents(words.firstChild);
+        return range.getBoundingClientRect().top;
+    };
+    return all('#best-body tr').filter((row) => new Set([...row.querySelectorAll('.axis')].map((each) => Math.round(2 * top(each)))).size > 1)
+        .map((row) => row.textContent)"""
 
 
 def says_all(tally: Tally, browser: Browser) -> None:
@@ -198,6 +206,7 @@ def has_rows(tally: Tally, browser: Browser) -> None:
         heights = [row["height"] for row in rows[:FIRST_ROWS]]
         tally.holds(f"{width}: heights of rows: {min(heights)}, {max(heights)}", max(heights) - min(heights) <= 0.5)
         tally.equal(f"{width}: parts of a row on each other", [row for row in rows if row["on"]], [])
+        tally.equal(f"{width}: rows whose cells aren't level", browser.script(UNEVEN), [])
 
 
 def places(tally: Tally, browser: Browser) -> None:

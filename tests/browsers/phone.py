@@ -214,10 +214,13 @@ def is_even(tally: Tally, browser: Browser) -> None:
     )
     whole = """const [nets, player] = [part('net-inverse'), part('play-on')].map((each) => each.getBoundingClientRect());
         return nets.bottom <= player.top && player.bottom <= innerHeight"""
+    answer = """const { top, bottom } = part('why').getBoundingClientRect();
+        return part('why').innerText !== '' && top >= part('play-on').getBoundingClientRect().bottom && bottom <= innerHeight"""
     browser.walk(
         tally,
         "large nets are seen with what plays on them",
         ("act", "#cube-large", {whole: True}),
+        ("choose", "piece", "1", {answer: True}),
         ("press", Keys.ESCAPE, {}),
     )
 

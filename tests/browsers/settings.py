@@ -1,5 +1,5 @@
 """What a reader's system and browser ask for or refuse: more contrast, no motion, other languages, no storage, and a long history."""
-from browser import Browser
+from browser import LAST_STEP_AWAY, Browser
 from looks import ADDRESS, CONTRAST
 from tally import Tally
 
@@ -78,7 +78,7 @@ def has_a_long_history(tally: Tally, browser: Browser) -> None:
     for _ in range(ENTRIES // 2):
         browser.submit("own", "R")
         browser.until("return all('#line-list li').length === 1")
-        browser.script("part('undo-step').click()")
+        browser.script("document.querySelector(arguments[0]).click()", LAST_STEP_AWAY)
         browser.until("return all('#line-list li').length === 0")
     browser.wait()
     tally.holds("it is long", browser.script("return history.length") >= 50)

@@ -1,5 +1,5 @@
 """The way on from step to step and back: the browser's history, undo, what is kept, the lists and their filter."""
-from browser import Browser, Keys
+from browser import LAST_STEP_AWAY, Browser, Keys
 from tally import Tally
 from wanted import Position
 
@@ -40,7 +40,9 @@ def history(tally: Tally, browser: Browser) -> None:
     both = browser.text("bracketed")
     browser.walk(tally, "a step, moves by hand and Clear make one each", ("act", "#clear", {count: entries + 3}))
     back(browser)
-    browser.walk(tally, "Back after Clear", ("wait", {"bracketed": both}), ("act", "#undo-step", {"bracketed": first}))
+    browser.walk(
+        tally, "Back after Clear", ("wait", {"bracketed": both}), ("act", LAST_STEP_AWAY, {"bracketed": first})
+    )
     for what, looks in (
         ("an undone step", {"bracketed": both}),
         ("moves by hand", {"bracketed": first}),
@@ -67,7 +69,7 @@ def refused(tally: Tally, browser: Browser) -> None:
         setTimeout(() => Object.assign(History.prototype, { pushState, replaceState }), 500);
         document.querySelector(arguments[0]).click()"""
     browser.go("#scramble=R_U_F&steps=normal.R~inverse.U")
-    for button, steps in (("#switch", "normal.R~inverse.U"), ("#undo-step", "normal.R")):
+    for button, steps in (("#switch", "normal.R~inverse.U"), (LAST_STEP_AWAY, "normal.R")):
         browser.walk(
             tally,
             "refused",
@@ -83,8 +85,8 @@ def undo(tally: Tally, browser: Browser) -> None:
         tally,
         "undo",
         ("go", "#scramble=R_U_F&steps=inverse.R~normal.U", {}),
-        ("act", "#undo-step", {"side": "normal side"}),
-        ("act", "#undo-step", {"side": "inverse side"}),
+        ("act", LAST_STEP_AWAY, {"side": "normal side"}),
+        ("act", LAST_STEP_AWAY, {"side": "inverse side"}),
     )
 
 
@@ -104,7 +106,7 @@ def kept(tally: Tally, browser: Browser) -> None:
         """const { postMessage } = Worker.prototype; Worker.prototype.postMessage = function (...words) {
         if (words[0].request?.call !== 'bestOfAxis') postMessage.apply(this, words); }"""
     )
-    browser.act("#undo-step")
+    browser.act(LAST_STEP_AWAY)
     tally.equal("they are kept", shown(), found)
     marked = browser.script("return all('.seen').map((each) => each.ariaLabel.endsWith(', seen'))")
     tally.equal("the row that was taken is marked", marked, [True])
@@ -137,7 +139,7 @@ def returns(tally: Tally, browser: Browser) -> None:
 
 def leaves_list(tally: Tally, browser: Browser) -> None:
     """An open list doesn't outlast its cube, is closed by its cell, its button and a key, and is looked for once."""
-    for act in ("#undo-step", "#clear", "#bar-undo", "#best-body .take"):
+    for act in (LAST_STEP_AWAY, "#clear", "#bar-undo", "#best-body .take"):
         browser.go(ADDRESS + "&steps=normal.D2_R2_L_U")
         browser.wait_best()
         browser.act('[data-cell="drrl-eoud.normal"]')

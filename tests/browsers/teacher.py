@@ -50,6 +50,8 @@ def tells_why(tally: Tally, browser: Browser) -> None:
         re.findall(r"(Normal|Inverse): (?:\w\w at )?UB is ", browser.text("why")),
         ["Normal", "Inverse"],
     )
+    again = "const it = part('why').firstChild; part('marks').dispatchEvent(new Event('change')); return part('why').firstChild === it"
+    tally.holds("what stays isn't said again", browser.script(again))
     # what is said of a piece is of the cube that is shown
     browser.go("#scramble=F&steps=normal.F-")
     browser.choose("marks", "EO F/B")
@@ -65,9 +67,7 @@ def tells_why(tally: Tally, browser: Browser) -> None:
     browser.go("#scramble=F")
     browser.choose("marks", "EO F/B")
     rule = "(U or D tells, else F or B)"
-    tally.equal(
-        "UF", browser.script(PRESS, 7), f"Normal: FL at UF is bad for EO F/B: its F belongs on U, and is on F {rule}."
-    )
+    tally.equal("UF", browser.script(PRESS, 7), f"Normal: FL at UF is bad for EO F/B: its F is on F, not on U {rule}.")
     tally.equal("UR", browser.script(PRESS, 5), f"Normal: UR is good for EO F/B: its U is on U {rule}.")
     # an edge is in its slice or not by its colours, which is no reason for where it is
     browser.choose("marks", "DR U/D")
@@ -121,7 +121,7 @@ def enlarges(tally: Tally, browser: Browser) -> None:
     box = """const { left, top, width, height } = part('cube').getBoundingClientRect();
         const isOver = [0.1, 0.5, 0.9].every((across) => [0.1, 0.5, 0.9].every((down) =>
             document.elementFromPoint(across * innerWidth, down * innerHeight).closest('#cube')));
-        return [left, top, width >= innerWidth - 20, height === innerHeight, isOver]"""
+        return [left, top, width === innerWidth, height === innerHeight, isOver]"""
     tally.equal("the card fills the window, and nothing stands above it", browser.script(box), [0, 0, True, True, True])
     tally.holds(f"the nets are larger: {small}, {browser.script(width)}", browser.script(width) > 1.5 * small)
     within = (
@@ -172,6 +172,10 @@ def shows_a_reduction(tally: Tally, browser: Browser) -> None:
         browser.until("return part('played').textContent.startsWith(arguments[0])", f"{at + 6} of 10")
         tally.equal(f"before move {at + 1} of the DR", browser.script(marked), [f"DR F/B: {cases[at]}", True])
         tally.equal("the move that was made", browser.look(MADE), [moves[at + 6]])
+        # the one before the reduction is the last of those on the inverse
+        side = "" if at > 0 else "on the inverse side "
+        said = f"{at + 6} of 10: {side}{moves[at + 6]} · DR F/B: {cases[at]}".replace("'", " prime")
+        tally.equal("and what is said of it", browser.look("said"), said)
     browser.click("#play-back")
     browser.until("return part('played').textContent.startsWith('5 of 10')")
     tally.holds("and before the last of the EO", browser.script(marked)[0].startswith("EO U/D: "))

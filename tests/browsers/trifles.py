@@ -1,6 +1,6 @@
 """What isn't asked for often: less motion, a sheet, a browser that refuses to copy, keys in a field, titles, a line kept with its
 reduction."""
-from browser import Browser, Keys
+from browser import LAST_STEP_AWAY, Browser, Keys
 from looks import SCRAMBLE
 from tally import Tally
 
@@ -57,7 +57,7 @@ def sets_up(tally: Tally, browser: Browser) -> None:
         ("comes", "n #kept-list dl", 1, both),
         ("script", "dispatchEvent(new Event('beforeprint'))", {"n #kept-list details[open]": 1}),
         ("script", "dispatchEvent(new Event('afterprint'))", {"n #kept-list details[open]": 0}),
-        ("act", "#undo-step", {"set-ups?": False}),
+        ("act", LAST_STEP_AWAY, {"set-ups?": False}),
     )
 
 

@@ -1,6 +1,6 @@
 """Scrambles and moves that turn the whole cube: what is listed for them reaches its step, and the page says how it reads them."""
 from addresses import is_shown
-from browser import Browser
+from browser import LAST_STEP_AWAY, Browser
 from kept import KEPT_SAID
 from tally import Tally
 from wanted import SIDES, TITLES, Position
@@ -40,7 +40,7 @@ def reaches(tally: Tally, browser: Browser, what: str, address: str, *made: str)
         # a reduction that the step reaches with it is all that the line names
         reached = browser.text("reached")
         tally.holds(f"{what}, {side} side: {wanted[0]} reaches {step}: {reached}", TITLES[step] in reached)
-        browser.act("#undo-step")
+        browser.act(LAST_STEP_AWAY)
 
 
 def scrambles(tally: Tally, browser: Browser) -> None:

@@ -2,7 +2,7 @@
 import { AXES, type Facts } from "../../module/shared/facts.js";
 import { stickersOf } from "../../module/shared/stickers.js";
 import { present } from "../shared/certain.js";
-import { element, part, tell } from "../shared/element.js";
+import { announce, element, part, spoken, tell } from "../shared/element.js";
 import { emptyNet, showCube, stickerOf } from "./net.js";
 import {
   SIDES, axisName, bracketed, nameOfSide, newlyReached, singleMoves, type Side,
@@ -126,8 +126,9 @@ export class Nets {
     const piece = PIECES[part("piece").selectedIndex - 1];
     const { views, choice } = this.#shown();
     const why = (side: Side) => whyOf(views[side].letters, piece, choice);
-    const sentences = this.#asked.map((side) => `${nameOfSide(side)}: ${piece && why(side)}`);
-    tell(part("why"), piece ? sentences.join(" ") : "");
+    const words = piece ? this.#asked.map((side) => `${nameOfSide(side)}: ${why(side)}`).join(" ") : "";
+    // what stays as it was isn't said again
+    if (words !== part("why").textContent) tell(part("why"), words);
   }
 
   #enlarge(isLarge: boolean) {
@@ -190,7 +191,9 @@ export class Nets {
 
   async #step(by: number) {
     this.stop();
-    if (await this.#load()) this.#go(this.#frame + by);
+    if (!(await this.#load())) return;
+    this.#go(this.#frame + by);
+    announce(spoken(`${part("played").textContent}${part("marked-normal").textContent}`));
   }
 
   #go(frame: number) {

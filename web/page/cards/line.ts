@@ -16,7 +16,7 @@ import type { Walk } from "../answers/examine.js";
 const LONGEST_PASTED = 65536;
 const UNKNOWN = "…";
 const NO_MOVES = "No moves yet";
-const OF_MOVES = ["line-list", "whole", "set-ups", "undo", "bar-total", "bar-undo", "keep-line"];
+const OF_MOVES = ["line-list", "whole", "set-ups", "clear", "bar-total", "bar-undo", "keep-line"];
 
 /** Words in a row: `one`, `one and another`, `one, another and a third`. */
 const listed = (words: string[]) => [words.slice(0, -1).join(", "), ...words.slice(-1)].filter(Boolean).join(" and ");
@@ -86,7 +86,7 @@ export class LineSoFar {
     });
     takeLines(part("own"), reader);
     part("switch").addEventListener("click", () => this.turn(otherSide(this.#side)));
-    for (const name of ["undo-step", "bar-undo"]) part(name).addEventListener("click", () => this.undoStep());
+    part("bar-undo").addEventListener("click", () => this.undoStep());
     part("clear").addEventListener("click", () => this.#undo([], "normal"));
     part("keep-line").addEventListener("click", () => acts.star());
     for (const name of ["joined", "fmc"]) {

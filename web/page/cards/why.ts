@@ -21,7 +21,7 @@ function edgeOriented(faces: string[], colours: string[], axis: string) {
   const [told, telling] = [whichTells(colours, axes), whichTells(faces, axes)];
   const rule = `${eitherOf(first)} tells, else ${eitherOf(axis)}`;
   if (told === telling) return `good for EO ${axis}: its ${colours[told]} is on ${faces[told]} (${rule})`;
-  return `bad for EO ${axis}: its ${colours[told]} belongs on ${faces[telling]}, and is on ${faces[told]} (${rule})`;
+  return `bad for EO ${axis}: its ${colours[told]} is on ${faces[told]}, not on ${faces[telling]} (${rule})`;
 }
 
 function edgePlaced(faces: string[], colours: string[], axis: string) {
