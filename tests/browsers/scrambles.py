@@ -112,13 +112,12 @@ def keeps_what_back_leaves(tally: Tally, browser: Browser) -> None:
         ("act", "#keep-line", {"kept": 2}),
         ("script", "history.go(-2)", {}),
         ("comes", "steps", 0, {KEPT: ["D", "D L"]}),
-        (
-            "follow",
-            "#scramble=R_U_F&steps=normal.B&kept=normal.B2",
-            {KEPT: ["D", "B2", "D L"], "bracketed": "B", CHIPS: ["1 ★3", "2", "3"]},
-        ),
+        ("follow", "#scramble=R_U_F&steps=normal.B&kept=normal.B2", {}),
+        # they stand in order once each is known
+        ("comes", KEPT, ["D", "B2", "D L"], {"bracketed": "B", CHIPS: ["1 ★3", "2", "3"]}),
         ("follow", "#scramble=R_U_F", {"bracketed": "B", "kept": 3}),
-        ("follow", "#scramble=R_U_F&steps=normal.F", {"bracketed": "F", KEPT: ["D", "B2", "B", "D L"]}),
+        ("follow", "#scramble=R_U_F&steps=normal.F", {"bracketed": "F"}),
+        ("comes", KEPT, ["D", "B2", "B", "D L"], {}),
     )
 
 
