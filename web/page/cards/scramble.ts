@@ -35,6 +35,7 @@ const newSheet = ({ scramble, steps, candidates }: Attempt, written: Written): N
 export class ScrambleField {
   #field = part("scramble");
   #timer = 0;
+  #turn = 0;
   #leftOut: string[] = [];
   #isRead = false;
   /** the scramble that was read last, and whether what is pasted, or typed, takes the place of all of it */
@@ -71,8 +72,7 @@ export class ScrambleField {
       const isAll = value.trim() !== "" && selectionStart === 0 && selectionEnd === value.length;
       if (isAll && inputType.startsWith("insert") && inputType !== "insertFromPaste") this.#isEmptied = true;
     });
-    // what was typed just before another address is opened doesn't come over it
-    addEventListener("hashchange", () => clearTimeout(this.#timer));
+    addEventListener("hashchange", () => this.#overtake());
     part("random").addEventListener("click", () => this.#draw());
     part("scramble-edit").addEventListener("click", () => this.focus());
     // not as soon as the focus goes: what is pressed would move away under the finger
@@ -143,8 +143,14 @@ export class ScrambleField {
     if (isFolded && !areBeside() && isWithin) part("scramble-edit").focus({ preventScroll: true });
   }
 
-  #typed(how: string) {
+  /** What was typed just before another address is opened, or is still being drawn, doesn't come over it. */
+  #overtake() {
     clearTimeout(this.#timer);
+    this.#turn++;
+  }
+
+  #typed(how: string) {
+    this.#overtake();
     const isReplaced = this.#isReplaced;
     this.#isReplaced = false;
     // what is pasted is whole
@@ -219,8 +225,10 @@ export class ScrambleField {
 
   async #draw() {
     const [seed] = crypto.getRandomValues(new BigUint64Array(1));
+    const turn = ++this.#turn;
     try {
       const scramble = await this.calls.ask("scrambleOf", { seed });
+      if (turn !== this.#turn) return;
       const isStep = !this.#isDraft;
       this.show(scramble);
       this.acts.change(scramble, { isNew: true, isDrawn: true, isDraft: false, fmc: null, isStep, others: [] });
