@@ -94,8 +94,7 @@ export class ScrambleField {
     }
     this.#last = scramble || this.#last;
     this.#shown = this.#field.value;
-    this.#isEmptied = false;
-    this.#isDraft = false;
+    [this.#isEmptied, this.#isDraft] = [false, false];
   }
 
   /** Shows what is wrong with the scramble, or that nothing is; and how it is read, where anything is left out. */
@@ -114,8 +113,7 @@ export class ScrambleField {
     if (words !== part("scramble-read").textContent) tell(part("scramble-read"), words);
     part("scramble-folded").textContent = text;
     this.#isRead = read !== null && read.line !== "";
-    const { activeElement } = document;
-    if (this.#field !== activeElement || !this.#isRead) this.#fold(this.#isRead);
+    if (this.#field !== document.activeElement || !this.#isRead) this.#fold(this.#isRead);
   }
 
   /** Says why the last text may be read otherwise than it was meant, until anything is changed. */
@@ -137,9 +135,8 @@ export class ScrambleField {
 
   /** Folds the card where the page is narrow, or opens it; the focus isn't lost with what is folded. */
   #fold(isFolded: boolean) {
-    const focused = document.activeElement;
+    const isWithin = part("scramble-open").contains(document.activeElement);
     part("scramble-card").classList.toggle("folded", isFolded);
-    const isWithin = part("scramble-open").contains(focused);
     if (isFolded && !areBeside() && isWithin) part("scramble-edit").focus({ preventScroll: true });
   }
 
@@ -163,8 +160,7 @@ export class ScrambleField {
     const text = this.#field.value;
     // an empty line more is nothing new
     if (!isPasted && this.#isRead && text.trim() === this.#shown.trim()) return;
-    const attempts = this.reader.attempts(text);
-    const plain = this.reader.plainLine(text);
+    const [attempts, plain] = [this.reader.attempts(text), this.reader.plainLine(text)];
     const whole = spaced(attempts[0].scramble) === spaced(plain) ? asTyped(plain) : null;
     const others = attempts.slice(1).map((each, at) => newSheet(each, { text, at: at + 1 }));
     this.#take({ text, at: 0 }, attempts, { isReplaced, whole, others: isPasted ? others : [] });
@@ -188,8 +184,7 @@ export class ScrambleField {
     const line = whole ?? spaced(scramble);
     if (whole === null) this.#field.value = line;
     const fmc = steps.length + candidates.length > 0 ? written : null;
-    this.#lastText = written.text;
-    this.#shown = this.#field.value;
+    [this.#lastText, this.#shown] = [written.text, this.#field.value];
     const isNew = this.#isOther(spaced(scramble), isReplaced, fmc !== null);
     const left = attempts.length - 1 - others.length;
     this.#leftOut = [
@@ -218,8 +213,7 @@ export class ScrambleField {
     const isAgain = this.#isEmptied && !isPasted && !hasSteps && last.startsWith(line);
     const isReplaced = last !== "" && (isPasted || this.#isEmptied) && !isAgain;
     if (isAgain && last !== line) return false;
-    this.#isEmptied = false;
-    this.#last = line;
+    [this.#isEmptied, this.#last] = [false, line];
     return last !== line && (isReplaced || hasSteps);
   }
 
