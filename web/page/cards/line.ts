@@ -33,11 +33,11 @@ function endOf({ parts, facts, reached, totals }: Walk) {
 
 /** What is said of a step that newly reaches nothing: what it gives up, and what it would reach on the other side. */
 function missedBy({ reached, otherwise }: Walk, index: number) {
-  // of what follows a DR nissy knows no step
-  if (isReduced(reached[index + 1])) return "";
+  const there = otherwise[index].map((state) => `${state} on the other side`);
+  // of what follows a DR nissy knows no step, only the end
+  if (isReduced(reached[index + 1])) return otherwise[index].includes("solved") ? there.join() : "";
   const [before, after] = [reached[index], reached[index + 1]].map(statesOf);
   const givenUp = before.filter((state) => !after.includes(state)).map((state) => `gives up ${state}`);
-  const there = otherwise[index].map((state) => `${state} on the other side`);
   return [...givenUp, ...there].join(", ") || "reaches no step";
 }
 
