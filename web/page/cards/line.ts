@@ -235,8 +235,9 @@ export class LineSoFar {
   #undo(parts: Part[], side = parts.length === this.#parts.length - 1 ? lastSideOf(lastOf(this.#parts)) : null) {
     const isBack = this.acts.change(side === null ? { parts } : { parts, side });
     announce(parts.length === 0 ? "The line is empty." : `The line is ${spoken(bracketed(parts))}.`);
-    // a field that is typed in would bring the keyboard of a phone up, beside the row
-    if (parts.length === 0) part(isBack ? "line-heading" : "own").focus({ preventScroll: true });
+    // a field that is typed in would bring the keyboard of a phone up, also beside the row
+    const isQuiet = isBack || matchMedia("(pointer: coarse)").matches;
+    if (parts.length === 0) part(isQuiet ? "line-heading" : "own").focus({ preventScroll: true });
   }
 
   #add() {
