@@ -29,7 +29,7 @@ OF_A_STEP = (
     (
         "R U F\n\nAnna: F' U' R'\nBert: F' U' D",
         "F' U' R' F' U' D",
-        "the steps don't solve the scramble, but some of them do",
+        "as a whole this doesn't solve the scramble, but a part of it does",
         0,
     ),
     ("R U F\n\nD\nF' // EO U' R' D", "D F'", "moves stand in a comment, and are left out", 1),

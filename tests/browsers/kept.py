@@ -3,7 +3,7 @@ import re
 from itertools import combinations
 
 from attempts import PASTE
-from best import ROWS
+from best import DETAILS, ROWS
 from browser import Browser
 from program import program_answers
 from steps import ADDRESS, EXAMPLE, SCRAMBLE
@@ -125,6 +125,14 @@ def copies_kept(tally: Tally, browser: Browser) -> None:
     )
 
 
+def lengths_of(row: list[str], first: str) -> str:
+    """The lengths of a row's reduction on each side alone, over both if its first one is, and of all moves."""
+    *_, normal, inverse = row
+    moves = first.removeprefix("then ")
+    both = f" {len(moves.split())} over both," if "(" in moves and not moves.startswith("(") else ""
+    return f"{normal} normal, {inverse} inverse,{both} {row[0]} with the line"
+
+
 def keeps_reductions(tally: Tally, browser: Browser) -> None:
     """A row of the best is kept with its reduction: the star is of that row, and what is kept says what the row says, sorted by it."""
     browser.open(ADDRESS)
@@ -136,12 +144,12 @@ def keeps_reductions(tally: Tally, browser: Browser) -> None:
     one, other = next(pair for pair in combinations(range(len(rows)), 2) if rows[pair[0]][1] == rows[pair[1]][1])
     stars = "return [...document.querySelectorAll('#best-body .star')].map((each) => each.ariaPressed === 'true')"
     case = browser.texts(f"#best-body tr:nth-child({one + 1}) .case")[0]
-    total, line, state, reduction, normal, inverse = rows[one]
-    said = f"{reduction} {case}: {normal} normal, {inverse} inverse, {total} with the line"
+    total, line, state, reduction, *_ = rows[one]
     told = """const it = document.querySelectorAll('#best-body .first')[arguments[0]]; it.scrollIntoView({ block: 'center' });
         return it.textContent"""
     browser.until(told, one)
     first = browser.script(told, one)
+    said = f"{reduction} {case}: {lengths_of(rows[one], first)}"
     browser.act('[data-cell="eorl.normal"]')
     shortest = browser.script(
         "const row = document.querySelector('#solutions-groups li'); row.querySelector('.star').click();"
@@ -296,11 +304,9 @@ def keeps_lengths(tally: Tally, browser: Browser) -> None:
     browser.script("document.querySelectorAll('#best-body .star').forEach((star) => star.click())")
     browser.until(KEPT_SAID)
     said = [[words[0], words[-2].split(": ")[1]] for words in browser.script(KEPT_WORDS)]
-    tally.equal(
-        "each as in its row",
-        said,
-        [[row[1], f"{row[4]} normal, {row[5]} inverse, {row[0]} with the line"] for row in rows],
-    )
+    wanted = [[row[1], lengths_of(row, first)] for row, (first, *_) in zip(rows, browser.script(DETAILS), strict=True)]
+    tally.equal("each as in its row", said, wanted)
+    tally.holds("some are over both sides", any("over both" in lengths for _, lengths in wanted))
 
 
 def keeps_stages(tally: Tally, browser: Browser) -> None:

@@ -143,6 +143,14 @@ def other_side(tally: Tally, browser: Browser) -> None:
         ("go", "#scramble=R_U_F&steps=normal.D~normal.R2.inverse.L", {"bracketed": "D R2 (L)"}),
         ("script", switch, 1, {"bracketed": "D L (R2)", "steps": 2}),
     )
+    # without a DR, and after one
+    for address in ("#scramble=R_U_F&steps=normal.F-~normal.R_U", "#scramble=U_R2_F2&steps=normal.F2~normal.U_R2"):
+        browser.walk(
+            tally,
+            "an end on the wrong side",
+            ("go", address, {hint: ["", "solved on the other side"]}),
+            ("script", switch, 1, {hint: ["", ""], "finished": "Solved: 3 moves."}),
+        )
 
 
 def by_keys(tally: Tally, browser: Browser) -> None:

@@ -105,6 +105,14 @@ def undoes(tally: Tally, browser: Browser) -> None:
         tally.holds(f"{taken}: undone, its row is in view and has the focus", browser.until(row))
         browser.walk(tally, f"{taken}: that row", ("wait", {"focus": taken[0], "kept": 1}))
         tally.equal(f"{taken}: the list beside it", "list=" in browser.hash(), address != "")
+    browser.walk(
+        tally,
+        "no keyboard comes up over an emptied line",
+        ("go", ADDRESS + "&steps=normal.R~normal.U", {}),
+        ("script", INTO_VIEW, "#clear", "center", {}),
+        ("click", "#clear", {}),
+        ("comes", "steps", 0, {"focus": "line-heading"}),
+    )
     browser.go(ADDRESS)
     browser.wait_best()
     browser.walk(

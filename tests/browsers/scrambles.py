@@ -1,6 +1,6 @@
 """The desk: each scramble that is worked on stays with its line, its list and what is kept, whatever else is read, and also for later."""
 from attempts import CHIPS, PASTE, SHOWN, chip
-from browser import Browser
+from browser import HELD, Browser
 from tally import Tally
 
 KEPT = "kept lines"
@@ -95,6 +95,30 @@ def gives_up_drawn(tally: Tally, browser: Browser) -> None:
         ("act", "#random", {}),
         ("comes", CHIPS, four, {}),
         ("act", "#desk-new", {CHIPS: four}),
+    )
+
+
+def drops_what_is_drawn(tally: Tally, browser: Browser) -> None:
+    """A random scramble that is still being drawn doesn't come over what is done meanwhile: the browser's Back, or a paste."""
+    begin(browser, tally, "a mean")
+    browser.walk(
+        tally,
+        "Back while one is drawn",
+        ("act", chip(2), {SHOWN: ["2"]}),
+        ("script", HELD % "scrambleOf", {}),
+        ("act", "#random", {SHOWN: ["2"]}),
+        ("script", "history.back()", {}),
+        ("comes", SHOWN, ["1"], {}),
+        ("script", "window.goOn()", {}),
+        # what is asked after it is answered after it
+        ("submit", "own", "D L", {}),
+        ("comes", "steps", 1, {CHIPS: ["1", "2", "3"], SHOWN: ["1"], "scramble=": "R U F"}),
+        ("script", HELD % "scrambleOf", {}),
+        ("act", "#random", {SHOWN: ["1"]}),
+        ("script", PASTE, "L2 D", {CHIPS: ["1", "2", "3", "4"], SHOWN: ["4"]}),
+        ("script", "window.goOn()", {}),
+        ("submit", "own", "B", {}),
+        ("comes", "steps", 1, {CHIPS: ["1", "2", "3", "4"], SHOWN: ["4"], "scramble=": "L2 D"}),
     )
 
 

@@ -55,9 +55,8 @@ function passedBy(nissy: Nissy, parts: Part[], positions: Position[], reached: s
 
 function reachedOtherwise(nissy: Nissy, scramble: string, before: Part[], part: Part, reached: string[][]) {
   if (newlyReached({ reached }, before.length).length > 0) return [];
-  const line = nissy.lineAfter(scramble, bracketed([...before, onOtherSides(part)]));
-  const there = nissy.facts(line).holds.filter(isOffered);
-  return newlyReached({ reached: [reached[before.length], there] }, 0);
+  const { holds, solved } = nissy.facts(nissy.lineAfter(scramble, bracketed([...before, onOtherSides(part)])));
+  return solved ? ["solved"] : newlyReached({ reached: [reached[before.length], holds.filter(isOffered)] }, 0);
 }
 
 function walkOf(nissy: Nissy, scramble: string, parts: Part[]): Walk {

@@ -37,9 +37,10 @@ const rankOfKept = (walk: KeptWalk | null) => (walk === null ? 0 : totalOf(walk)
 function wordsOfNext({ next }: KeptWalk): string[] {
   if (next === null) return [];
   const { dr, case: name, total } = next;
-  const [normal, inverse] = SIDES.map((side) => dr.lengths[side] ?? "–");
-  const words = `${stateOf(stepNamed(dr.step))} ${name}: ${normal} normal, ${inverse} inverse, ${total} with the line`;
-  return [words, ...(dr.moves === "" ? [] : [`then ${dr.moves}`])];
+  const alone = SIDES.map((side) => `${dr.lengths[side] ?? "–"} ${side}`);
+  const both = sidesOf(dr) === "both" ? [`${dr.length} over both`] : [];
+  const words = [...alone, ...both, `${total} with the line`].join(", ");
+  return [`${stateOf(stepNamed(dr.step))} ${name}: ${words}`, ...(dr.moves === "" ? [] : [`then ${dr.moves}`])];
 }
 
 /** What follows a line that isn't reduced: the reduction that it was kept with, or the case of each that may follow. */
@@ -151,8 +152,7 @@ export class KeptCandidates {
     try {
       const walks = await this.calls.ask("walkKept", { scramble, candidates });
       if (candidates !== this.#candidates) return;
-      this.#walks = walks;
-      [this.#scramble, this.#line] = [written, scramble];
+      [this.#walks, this.#scramble, this.#line] = [walks, written, scramble];
       this.#draw();
     } catch (fault) {
       if (candidates !== this.#candidates || fault instanceof Stopped) return;

@@ -33,11 +33,11 @@ function endOf({ parts, facts, reached, totals }: Walk) {
 
 /** What is said of a step that newly reaches nothing: what it gives up, and what it would reach on the other side. */
 function missedBy({ reached, otherwise }: Walk, index: number) {
-  // of what follows a DR nissy knows no step
-  if (isReduced(reached[index + 1])) return "";
+  const there = otherwise[index].map((state) => `${state} on the other side`);
+  // of what follows a DR nissy knows no step, only the end
+  if (isReduced(reached[index + 1])) return otherwise[index].includes("solved") ? there.join() : "";
   const [before, after] = [reached[index], reached[index + 1]].map(statesOf);
   const givenUp = before.filter((state) => !after.includes(state)).map((state) => `gives up ${state}`);
-  const there = otherwise[index].map((state) => `${state} on the other side`);
   return [...givenUp, ...there].join(", ") || "reaches no step";
 }
 
@@ -235,8 +235,9 @@ export class LineSoFar {
   #undo(parts: Part[], side = parts.length === this.#parts.length - 1 ? lastSideOf(lastOf(this.#parts)) : null) {
     const isBack = this.acts.change(side === null ? { parts } : { parts, side });
     announce(parts.length === 0 ? "The line is empty." : `The line is ${spoken(bracketed(parts))}.`);
-    // a field that is typed in would bring the keyboard of a phone up, beside the row
-    if (parts.length === 0) part(isBack ? "line-heading" : "own").focus({ preventScroll: true });
+    // a field that is typed in would bring the keyboard of a phone up, also beside the row
+    const isQuiet = isBack || matchMedia("(pointer: coarse)").matches;
+    if (parts.length === 0) part(isQuiet ? "line-heading" : "own").focus({ preventScroll: true });
   }
 
   #add() {

@@ -35,6 +35,7 @@ const newSheet = ({ scramble, steps, candidates }: Attempt, written: Written): N
 export class ScrambleField {
   #field = part("scramble");
   #timer = 0;
+  #turn = 0;
   #leftOut: string[] = [];
   #isRead = false;
   /** the scramble that was read last, and whether what is pasted, or typed, takes the place of all of it */
@@ -71,8 +72,7 @@ export class ScrambleField {
       const isAll = value.trim() !== "" && selectionStart === 0 && selectionEnd === value.length;
       if (isAll && inputType.startsWith("insert") && inputType !== "insertFromPaste") this.#isEmptied = true;
     });
-    // what was typed just before another address is opened doesn't come over it
-    addEventListener("hashchange", () => clearTimeout(this.#timer));
+    addEventListener("hashchange", () => this.#overtake());
     part("random").addEventListener("click", () => this.#draw());
     part("scramble-edit").addEventListener("click", () => this.focus());
     // not as soon as the focus goes: what is pressed would move away under the finger
@@ -94,8 +94,7 @@ export class ScrambleField {
     }
     this.#last = scramble || this.#last;
     this.#shown = this.#field.value;
-    this.#isEmptied = false;
-    this.#isDraft = false;
+    [this.#isEmptied, this.#isDraft] = [false, false];
   }
 
   /** Shows what is wrong with the scramble, or that nothing is; and how it is read, where anything is left out. */
@@ -114,8 +113,7 @@ export class ScrambleField {
     if (words !== part("scramble-read").textContent) tell(part("scramble-read"), words);
     part("scramble-folded").textContent = text;
     this.#isRead = read !== null && read.line !== "";
-    const { activeElement } = document;
-    if (this.#field !== activeElement || !this.#isRead) this.#fold(this.#isRead);
+    if (this.#field !== document.activeElement || !this.#isRead) this.#fold(this.#isRead);
   }
 
   /** Says why the last text may be read otherwise than it was meant, until anything is changed. */
@@ -137,14 +135,19 @@ export class ScrambleField {
 
   /** Folds the card where the page is narrow, or opens it; the focus isn't lost with what is folded. */
   #fold(isFolded: boolean) {
-    const focused = document.activeElement;
+    const isWithin = part("scramble-open").contains(document.activeElement);
     part("scramble-card").classList.toggle("folded", isFolded);
-    const isWithin = part("scramble-open").contains(focused);
     if (isFolded && !areBeside() && isWithin) part("scramble-edit").focus({ preventScroll: true });
   }
 
-  #typed(how: string) {
+  /** What was typed just before another address is opened, or is still being drawn, doesn't come over it. */
+  #overtake() {
     clearTimeout(this.#timer);
+    this.#turn++;
+  }
+
+  #typed(how: string) {
+    this.#overtake();
     const isReplaced = this.#isReplaced;
     this.#isReplaced = false;
     // what is pasted is whole
@@ -157,8 +160,7 @@ export class ScrambleField {
     const text = this.#field.value;
     // an empty line more is nothing new
     if (!isPasted && this.#isRead && text.trim() === this.#shown.trim()) return;
-    const attempts = this.reader.attempts(text);
-    const plain = this.reader.plainLine(text);
+    const [attempts, plain] = [this.reader.attempts(text), this.reader.plainLine(text)];
     const whole = spaced(attempts[0].scramble) === spaced(plain) ? asTyped(plain) : null;
     const others = attempts.slice(1).map((each, at) => newSheet(each, { text, at: at + 1 }));
     this.#take({ text, at: 0 }, attempts, { isReplaced, whole, others: isPasted ? others : [] });
@@ -182,8 +184,7 @@ export class ScrambleField {
     const line = whole ?? spaced(scramble);
     if (whole === null) this.#field.value = line;
     const fmc = steps.length + candidates.length > 0 ? written : null;
-    this.#lastText = written.text;
-    this.#shown = this.#field.value;
+    [this.#lastText, this.#shown] = [written.text, this.#field.value];
     const isNew = this.#isOther(spaced(scramble), isReplaced, fmc !== null);
     const left = attempts.length - 1 - others.length;
     this.#leftOut = [
@@ -212,15 +213,16 @@ export class ScrambleField {
     const isAgain = this.#isEmptied && !isPasted && !hasSteps && last.startsWith(line);
     const isReplaced = last !== "" && (isPasted || this.#isEmptied) && !isAgain;
     if (isAgain && last !== line) return false;
-    this.#isEmptied = false;
-    this.#last = line;
+    [this.#isEmptied, this.#last] = [false, line];
     return last !== line && (isReplaced || hasSteps);
   }
 
   async #draw() {
     const [seed] = crypto.getRandomValues(new BigUint64Array(1));
+    const turn = ++this.#turn;
     try {
       const scramble = await this.calls.ask("scrambleOf", { seed });
+      if (turn !== this.#turn) return;
       const isStep = !this.#isDraft;
       this.show(scramble);
       this.acts.change(scramble, { isNew: true, isDrawn: true, isDraft: false, fmc: null, isStep, others: [] });

@@ -118,7 +118,7 @@ const WORDS_OF_DOUBTS: Record<string, (word: string) => string> = {
   repetition: (word) => `“${word}” may say that moves are made several times, and they are read once`,
   insertion: (word) =>
     `“${word}” may say that moves belong into others, and they are read in the order of the text`,
-  "a part": () => "the steps don't solve the scramble, but some of them do",
+  "a part": () => "as a whole this doesn't solve the scramble, but a part of it does",
 };
 
 export const wordsOfDoubt = ({ reason, place: { at } }: AttemptDoubt, text: string) =>
