@@ -260,6 +260,7 @@ fn headed_line(line: &[u8], kind: Head, head: usize) -> Line
 }
 
 /// What is seen of a line. One that goes on with prose after its head has none.
+#[inline(never)]
 pub fn line_of(line: &[u8], numbers: Numbers) -> Line
     ensures { result.length ≡ length line.now }
 {
@@ -351,7 +352,6 @@ pub fn names_solutions(text: &[u8]) -> bool {
 }
 
 /// The first line of a text.
-#[inline(never)]
 pub fn first_line(text: &[u8], numbers: Numbers) -> Line
     ensures { result.length ≤ length text.now }
 {

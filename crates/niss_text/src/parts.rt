@@ -15,6 +15,7 @@ fn with_digit(number: usize, digit: u8) -> usize {
 }
 
 /// The number of a head, if it has one: extras, such as `E1`, have others.
+#[inline(never)]
 pub fn number_in(head: &[u8]) -> Option<usize> {
     let mut number = None;
     let mut has_letters = false;
