@@ -41,43 +41,57 @@ fn has_turn(text: &[u8]) -> bool {
     text.iter().any(|byte| matches!(*byte, b'U' | b'D' | b'R' | b'L' | b'F' | b'B'))
 }
 
-/// Whether R' U' F stands in a line, and no turn after it.
-fn ends_with_frame(text: &[u8]) -> bool {
-    let mut rest = text;
-    while !rest.is_empty() {
-        if rest[0] == b'R' && behind_frame(rest).is_some_and(|end| !has_turn(end)) {
-            return true;
-        }
-        rest = &rest[1..];
-    }
-    false
-}
-
-/// What is after R' U' F in front of a text, if they are there and F is a quarter turn of one layer.
-fn behind_whole_frame(text: &[u8]) -> Option<&[u8]>
+/// What is after the first R' U' F of a text.
+#[inline(never)]
+fn behind_next_frame(text: &[u8]) -> Option<&[u8]>
     ensures { IfSome result (λ rest. length rest.now < length text.now) }
 {
-    let rest = behind_frame(text)?;
-    let kind = first_kind(rest);
-    let is_primed = kind == Kind::Prime || kind == Kind::Apostrophe;
-    if is_primed || (!rest.is_empty() && matches!(rest[0], b'w' | b'2')) {
-        None
-    } else {
-        Some(rest)
-    }
-}
-
-/// What is after the first R' U' F of a text.
-fn behind_first_frame(text: &[u8]) -> Option<&[u8]> {
     let mut rest = text;
     while !rest.is_empty() {
         if rest[0] == b'R' {
-            let behind = behind_whole_frame(rest);
+            let behind = behind_frame(rest);
             if behind.is_some() {
                 return behind;
             }
         }
         rest = &rest[1..];
+    }
+    None
+}
+
+/// Whether R' U' F stands somewhere in a text.
+pub fn has_frame(text: &[u8]) -> bool {
+    behind_next_frame(text).is_some()
+}
+
+/// Whether R' U' F stands in a line, and no turn after it.
+fn ends_with_frame(text: &[u8]) -> bool {
+    let mut rest = text;
+    while let Some(behind) = behind_next_frame(rest) {
+        if !has_turn(behind) {
+            return true;
+        }
+        rest = behind;
+    }
+    false
+}
+
+/// Whether the letter of a turn before a text is all of its move: no apostrophe, w or 2 follows.
+fn is_whole_move_before(text: &[u8]) -> bool {
+    let kind = first_kind(text);
+    let is_primed = kind == Kind::Prime || kind == Kind::Apostrophe;
+    let is_longer = !text.is_empty() && matches!(text[0], b'w' | b'2');
+    !is_primed && !is_longer
+}
+
+/// What is after the first R' U' F of a text in which F is all of its move.
+fn behind_first_frame(text: &[u8]) -> Option<&[u8]> {
+    let mut rest = text;
+    while let Some(behind) = behind_next_frame(rest) {
+        if is_whole_move_before(behind) {
+            return Some(behind);
+        }
+        rest = behind;
     }
     None
 }
@@ -91,28 +105,14 @@ pub fn is_whole_scramble(body: &[u8]) -> bool {
     }
 }
 
-/// Whether R' U' F stands somewhere in a text.
-pub fn has_frame(text: &[u8]) -> bool {
-    let mut rest = text;
-    while !rest.is_empty() {
-        if rest[0] == b'R' && behind_frame(rest).is_some() {
-            return true;
-        }
-        rest = &rest[1..];
-    }
-    false
-}
-
 /// Whether R' U' F stands somewhere in a text twice in a row, as if one scramble ends where another begins.
 fn has_two_frames(text: &[u8]) -> bool {
     let mut rest = text;
-    while !rest.is_empty() {
-        if rest[0] == b'R'
-            && behind_frame(rest).is_some_and(|next| behind_frame(trimmed(next)).is_some())
-        {
+    while let Some(behind) = behind_next_frame(rest) {
+        if behind_frame(trimmed(behind)).is_some() {
             return true;
         }
-        rest = &rest[1..];
+        rest = behind;
     }
     false
 }
