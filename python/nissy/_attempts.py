@@ -117,18 +117,14 @@ class Moves:
         self._written, self._nth, self._parts = written, nth, parts
         self._cuts = Cuts(whole, written)
 
-    def _part(self, nth: int) -> Tuple[int, int, int]:
-        start, stop, left_out = MOVES_PART.unpack_from(self._parts, MOVES_PART.size * nth)
-        return start, stop, left_out
-
     def of(self, begin: int, end: int) -> PlainLine:
         """Returns the moves of the lines from one to another as one line."""
         first, last = self._nth[begin], self._nth[end]
         if first == last:
             return NOTHING
-        start, stop, left_out = self._part(first)
+        start, stop, left_out = MOVES_PART.unpack_from(self._parts, MOVES_PART.size * first)
         for nth in range(first + 1, last):
-            _, stop, more = self._part(nth)
+            _, stop, more = MOVES_PART.unpack_from(self._parts, MOVES_PART.size * nth)
             left_out |= more
         return self._cuts.cut(start, stop, left_out)
 
@@ -227,7 +223,8 @@ class Reader:
 
     def attempt(self, begin: int, end: int) -> Attempt:
         """Returns the attempt that the lines from one to another are."""
-        before, doubt = self._kinds.count(_BEFORE, begin, end), self._doubt(begin, end)
+        before = self._kinds.count(_BEFORE, begin, end)
+        doubt = self._doubt(begin, end) if self._has_doubts else None
         made = Attempt(self.name(begin, end), self.moves(_OF_SCRAMBLE).of(begin, end), (), None, (), before, doubt)
         return made if self._kinds.find(STEP, begin, end) < 0 else self._with_steps(made, self.lines(begin, end))
 
@@ -246,8 +243,6 @@ class Reader:
 
     def _doubt(self, begin: int, end: int) -> Optional[AttemptDoubt]:
         """Returns what makes one doubt the first line that is in doubt."""
-        if not self._has_doubts:
-            return None
         doubts = self._doubts[begin:end].lstrip(b"\0")
         return self.doubt(doubts[0], self._number(end - len(doubts), _DOUBT_AT)) if doubts else None
 

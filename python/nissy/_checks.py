@@ -11,7 +11,7 @@ from ._lazily import Lazily
 from ._library import ATTEMPT_CHECK, DONE, KNOWN_PART, MOST_INPUT
 from ._lines import fault_of
 from ._tokens import places_of
-from ._values import LineFault, named
+from ._values import LineFault
 from ._written import PlainLine, TextPlace, Written, end_unless_made, place_in, string_of
 
 # the library's numbers of no scramble and of no place, and of the doubt of a part, which isn't one of the reading
@@ -163,8 +163,11 @@ class _Checks:
 
 def _fault(attempt: Attempt, told: _Told) -> LineFault:
     """Returns the fault of the scramble or the solution. Raises Fault if it has too many bytes."""
-    part, line = ("scramble", attempt.scramble) if told.line == 1 else ("solution", attempt.solution or NOTHING)
-    fault = named(fault_of(told.status, told.fault, told.column, bytes_of(line.line, ""), told.line), part)
+    part = "scramble" if told.line == 1 else "solution"
+    line = (getattr(attempt, part) or NOTHING).line
+    # of one in ASCII each byte is a character
+    fault = fault_of(told.status, told.fault, told.column, b"" if line.isascii() else bytes_of(line, ""), told.line)
+    fault.part = part
     if isinstance(fault, LineFault):
         return fault
     raise fault

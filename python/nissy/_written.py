@@ -124,10 +124,11 @@ class Written:
         # between the two signs of a line's end the next line begins
         is_between = self._has_pairs and at > 0 and self.text[at - 1 : at + 1] == "\r\n"
         line = bisect_right(self._lines, at + is_between)
-        return TextPlace(at, line, max(at - self._lines[line - 1], 0) + 1)
+        return TextPlace(at, line, at - self._lines[line - 1] + 1 or 1)
 
     def part(self, begin: int, end: int) -> str:
-        return self.text[self.at(begin) : self.at(end)]
+        characters = self._characters
+        return self.text[begin:end] if characters is None else self.text[characters[begin] : characters[end]]
 
     def plain(self, written: WrittenLine) -> PlainLine:
         """Returns a line that was written of this text."""
