@@ -152,7 +152,8 @@ export class KeptCandidates {
     try {
       const walks = await this.calls.ask("walkKept", { scramble, candidates });
       if (candidates !== this.#candidates) return;
-      [this.#walks, this.#scramble, this.#line] = [walks, written, scramble];
+      this.#walks = walks;
+      [this.#scramble, this.#line] = [written, scramble];
       this.#draw();
     } catch (fault) {
       if (candidates !== this.#candidates || fault instanceof Stopped) return;

@@ -117,7 +117,8 @@ export class LineSoFar {
   /** Shows the parts at once; what the engine says of them comes by `describe`. */
   show(parts: Part[]) {
     this.#reached = this.#wanted ?? keptOf(this.#reached, this.#parts, parts);
-    [this.#wanted, this.#doubt] = [null, null];
+    this.#wanted = null;
+    this.#doubt = null;
     this.#parts = parts;
     this.#words = parts.map((each) => ({
       moves: element("span", { class: "moves" }, bracketed([each])),

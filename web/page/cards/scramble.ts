@@ -94,7 +94,8 @@ export class ScrambleField {
     }
     this.#last = scramble || this.#last;
     this.#shown = this.#field.value;
-    [this.#isEmptied, this.#isDraft] = [false, false];
+    this.#isEmptied = false;
+    this.#isDraft = false;
   }
 
   /** Shows what is wrong with the scramble, or that nothing is; and how it is read, where anything is left out. */
@@ -160,7 +161,8 @@ export class ScrambleField {
     const text = this.#field.value;
     // an empty line more is nothing new
     if (!isPasted && this.#isRead && text.trim() === this.#shown.trim()) return;
-    const [attempts, plain] = [this.reader.attempts(text), this.reader.plainLine(text)];
+    const attempts = this.reader.attempts(text);
+    const plain = this.reader.plainLine(text);
     const whole = spaced(attempts[0].scramble) === spaced(plain) ? asTyped(plain) : null;
     const others = attempts.slice(1).map((each, at) => newSheet(each, { text, at: at + 1 }));
     this.#take({ text, at: 0 }, attempts, { isReplaced, whole, others: isPasted ? others : [] });
@@ -184,7 +186,8 @@ export class ScrambleField {
     const line = whole ?? spaced(scramble);
     if (whole === null) this.#field.value = line;
     const fmc = steps.length + candidates.length > 0 ? written : null;
-    [this.#lastText, this.#shown] = [written.text, this.#field.value];
+    this.#lastText = written.text;
+    this.#shown = this.#field.value;
     const isNew = this.#isOther(spaced(scramble), isReplaced, fmc !== null);
     const left = attempts.length - 1 - others.length;
     this.#leftOut = [
@@ -213,7 +216,8 @@ export class ScrambleField {
     const isAgain = this.#isEmptied && !isPasted && !hasSteps && last.startsWith(line);
     const isReplaced = last !== "" && (isPasted || this.#isEmptied) && !isAgain;
     if (isAgain && last !== line) return false;
-    [this.#isEmptied, this.#last] = [false, line];
+    this.#isEmptied = false;
+    this.#last = line;
     return last !== line && (isReplaced || hasSteps);
   }
 
