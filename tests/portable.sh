@@ -67,58 +67,77 @@ for made in "$room"/*.made; do
     passed=$((passed + more)) failed=$((failed + fewer))
 done
 
-# the program as the proved one is tried, and the same drawn runs by each compiler; what is slow by itself, or by an emulator, makes fewer
-add tests/program.sh "$room/gcc"
-add python3 tests/long_list.py "$program" "$room/gcc"
-add python3 tests/model/hostile.py "$room/gcc" 1 0.02 devices,growing,memory,gone,waiting,words,files
+# The program as the proved one is tried, and the same drawn runs by each compiler; what is slow by itself, or by an emulator, makes fewer. Parts have
+# a room of their own, so they name this one.
+compiled=$room
+part tests/program.sh "$compiled/gcc"
+part python3 tests/long_list.py "$program" "$compiled/gcc"
+part python3 tests/model/hostile.py "$compiled/gcc" 1 0.02 devices,growing,memory,gone,waiting,words,files
 others=() slow=()
 ran_by() { # LIST NAME [RUNNER]: adds the program of a compiler that was here, with what runs it
     local -n list=$1
-    [ -e "$room/$2" ] || return
+    [ -e "$compiled/$2" ] || return
     if [ $# -gt 2 ] && missing "$3"; then skips "running nissy.c for $2, since there is no $3" && return; fi
-    list+=("program=${3:+$3 }$room/$2")
+    list+=("program=${3:+$3 }$compiled/$2")
 }
 for name in gcc clang musl bytewise i686; do ran_by others $name; done
 for name in tcc sanitized; do ran_by slow $name; done
 for name in aarch64 s390x; do ran_by slow $name qemu-$name; done
-mv "$room/windows.exe" "$room/windows" 2> /dev/null
-if ! begin_wine "$room/wine" "$room/windows"; then skips "running nissy.c for Windows, since there is no wine"; else ran_by others windows "$wine"; fi
-add python3 tests/hosts/drawn.py "$program" 1 0.04 "${others[@]}"
-add python3 tests/hosts/drawn.py "$program" 1 0.01 "${slow[@]}"
-[ -z "$wine" ] || [ -z "$server" ] || end_wine
+mv "$compiled/windows.exe" "$compiled/windows" 2> /dev/null
+if ! begin_wine "$compiled/wine" "$compiled/windows"; then skips "running nissy.c for Windows, since there is no wine"; else ran_by others windows "$wine"; fi
+part python3 tests/hosts/drawn.py "$program" 1 0.04 "${others[@]}"
+part python3 tests/hosts/drawn.py "$program" 1 0.01 "${slow[@]}"
 
 # the library's tests over the file, in place of the library
 linked() { # COMPILER NAME TEST WORD..: the test of this name with the file as it was compiled
     # shellcheck disable=SC2046 # no word or one
-    "$1" -std=c11 -O1 -g1 "${@:4}" -pthread $(wraps "$3") -Iinclude -Itests/library -I"$room/rows" -o "$room/$2.$3" \
-        "tests/library/$3.c" "$room/$2.o"
+    "$1" -std=c11 -O1 -g1 "${@:4}" -pthread $(wraps "$3") -Iinclude -Itests/library -I"$compiled/rows" -o "$compiled/$2.$3" \
+        "tests/library/$3.c" "$compiled/$2.o"
 }
-rows_in_c "$room/rows"
+rows_in_c "$compiled/rows"
+by_sanitizers() { # TEST WORD..
+    holds "$1.c is linked with nissy.c" linked gcc sanitized "$1" "${sanitized[@]:2}"
+    add "$compiled/sanitized.$1" "${@:2}"
+    ended
+}
 for trial in "calls few" facts "ways few" "sides few" text attempts fuzz "threads 0 10"; do
-    name=${trial%% *} words=()
-    [ "$name" = "$trial" ] || read -ra words <<< "${trial#* }"
-    holds "$name.c is linked with nissy.c" linked gcc sanitized "$name" "${sanitized[@]:2}"
-    add "$room/sanitized.$name" "${words[@]}"
+    read -ra words <<< "$trial"
+    part by_sanitizers "${words[@]}"
 done
 by_other() { # TEST NAME COMPILER [RUNNER]: each number of an answer, by a processor of another width or byte order
-    [ -e "$room/$2.o" ] || return
     holds "$1.c is linked with it for $2" linked "$3" "$2" "$1" -static
-    add "${@:4}" "$room/$2.$1" few
+    add "${@:4}" "$compiled/$2.$1" few
+    ended
 }
-for name in calls facts ways sides text attempts; do by_other $name i686 i686-linux-gnu-gcc; done
-for name in facts ways sides text attempts; do missing qemu-s390x || by_other $name s390x s390x-linux-gnu-gcc qemu-s390x; done
-holds "threads.c is linked with it for races" linked gcc raced threads -fsanitize=thread
-add "$room/raced.threads" 0 5
+[ ! -e "$compiled/i686.o" ] || for name in calls facts ways sides text attempts; do part by_other $name i686 i686-linux-gnu-gcc; done
+if [ -e "$compiled/s390x.o" ] && ! missing qemu-s390x; then
+    for name in facts ways sides text attempts; do part by_other $name s390x s390x-linux-gnu-gcc qemu-s390x; done
+fi
+sees_races() {
+    holds "threads.c is linked with it for races" linked gcc raced threads -fsanitize=thread
+    add "$compiled/raced.threads" 0 5
+    ended
+}
+part sees_races
 in_c_plus_plus() { # NAME WORD..: the headers in C++ over the file as it was compiled
-    g++ -std=c++17 -O1 -DNISSY_IN_C "${@:2}" -pthread "$(wraps nissy)" -Iinclude -Itests/library -I"$room/rows" -o "$room/$1.plus" \
-        tests/library/nissy.cpp "$room/$1.o"
+    g++ -std=c++17 -O1 -DNISSY_IN_C "${@:2}" -pthread "$(wraps nissy)" -Iinclude -Itests/library -I"$compiled/rows" -o "$compiled/$1.plus" \
+        tests/library/nissy.cpp "$compiled/$1.o"
+}
+by_headers() { # WHAT NAME WORD..
+    holds "nissy.cpp is linked with it$1" in_c_plus_plus "${@:2}"
+    add "$compiled/$2.plus"
+    ended
 }
 if missing g++; then skips "nissy.hpp over nissy.c, since there is no g++"; else
-    holds "nissy.cpp is linked with it" in_c_plus_plus gcc
-    add "$room/gcc.plus"
-    holds "nissy.cpp is linked with it byte by byte, which takes memory for copies" in_c_plus_plus bytewise -DNISSY_BYTEWISE
-    add "$room/bytewise.plus"
+    part by_headers "" gcc
+    part by_headers " byte by byte, which takes memory for copies" bytewise -DNISSY_BYTEWISE
 fi
-holds "handlers.c is linked with it" linked gcc gcc handlers
-add "$room/gcc.handlers"
+has_handlers() {
+    holds "handlers.c is linked with it" linked gcc gcc handlers
+    add "$compiled/gcc.handlers"
+    ended
+}
+part has_handlers
+parts_end
+[ -z "$wine" ] || [ -z "$server" ] || end_wine
 ended
