@@ -115,18 +115,19 @@ if missing clang++; then skips "clang++ isn't installed"; else part by_compiler 
 printf '#include "nissy.h"\nint main(void) { return nissy_invert("R", 1, 0).status; }\n' > "$room/other.c"
 holds "a call with too few arguments doesn't compile" refuses cc -std=c11 "${strict[@]}" -o "$room/other" "$room/other.c" "$folder/libnissy.a"
 
-# the headers in other languages, as docs/C.md says
-callable_forms() { sed 's/^static inline //' include/nissy_forms.h; }
+# the headers in other languages, by the lines of docs/C.md
+bindings() { # FOLDER WORDS: those lines that begin so, in a folder that has the headers
+    mkdir "$1" && cp include/*.h "$1" && sed -n '/^\*\*Bindings/,$s/^    //p' docs/C.md | grep -E "^($2) " | (cd "$1" && bash -e)
+}
 by_cffi() {
-    callable_forms | cc "${strict[@]}" -shared -fPIC -o "$made/libforms.so" -x c - -x none -L"$folder" -Wl,--no-as-needed -lnissy -Wl,-rpath,"$folder"
-    sed '/^#include/d; /^static/,/^}/{s/^static inline\(.*\) {/\1;/p;d}' include/nissy.h include/nissy_text.h include/nissy_forms.h | cc -E -P - > "$made/nissy.cdef"
-    add python3 tests/library/by_cffi.py "$made/nissy.cdef" "$made/libforms.so"
+    holds "the lines for cffi end well" bindings "$made/cffi" sed
+    cc "${strict[@]}" -shared -fPIC -o "$made/libforms.so" "$made/cffi/nissy_forms.c" -L"$folder" -Wl,--no-as-needed -lnissy -Wl,-rpath,"$folder"
+    add python3 tests/library/by_cffi.py "$made/cffi/nissy.cdef" "$made/libforms.so"
     ended
 }
 read_by_bindgen() {
-    callable_forms > "$made/nissy_forms.c" &&
-        bindgen --allowlist-file '.*nissy.*' "$made/nissy_forms.c" -- -Iinclude -include nissy_text.h > "$made/nissy.rs" &&
-        test "$(grep -oE 'pub fn [A-Za-z0-9_]+' "$made/nissy.rs" | cut -c 8- | sort)" = "$({ declared && of_forms; } | sort)"
+    bindings "$made/bindgen" "sed|bindgen" &&
+        test "$(grep -oE 'pub fn [A-Za-z0-9_]+' "$made/bindgen/nissy.rs" | cut -c 8- | sort)" = "$({ declared && of_forms; } | sort)"
 }
 of_forms() { sed -n 's/^static inline .*\(nissy_[a-z_]*\)(.*/\1/p' include/nissy_forms.h; }
 if python3 -c "import cffi" 2> /dev/null; then part by_cffi; else skips "cffi isn't installed"; fi

@@ -15,7 +15,7 @@ from tally import Tally
 
 
 def main() -> None:
-    """A text, a struct and a search."""
+    """Texts, a struct and a search."""
     tally, ffi = Tally(), cffi.FFI()
     ffi.cdef(Path(sys.argv[1]).read_text(encoding="utf-8"))
     nissy, out = ffi.dlopen(sys.argv[2]), ffi.new("uint8_t[]", 2048)
@@ -37,6 +37,9 @@ def main() -> None:
     )
     fault = nissy.nissy_count(tables, b"R q", 3, 20, 0, 1, 1)
     tally.equal("a fault", (fault.status, fault.fault, fault.column), (nissy.NISSY_FAULT, nissy.NISSY_NOT_A_MOVE, 3))
+    places = ffi.new("uint64_t[]", 12)
+    plain = nissy.nissy_plain(b"R, U", 4, out, len(out), places, len(places))
+    tally.equal("a text", (bytes(out[0 : plain.length]), plain.left_out), (b"R  U", nissy.NISSY_COMMAS))
     line = b"R M2' r"
     form = nissy.nissy_next_form_place(line, len(line), 0)
     tally.equal("a form", (form.column, form.last, form.forms), (3, 5, nissy.NISSY_SLICES | nissy.NISSY_HALF_PRIME))
