@@ -1,6 +1,7 @@
 //! Whether what stands in a line is all of a scramble.
 ghost use Rattle.std.specs.Prelude.{◌≤◌, ◌<◌, length, IfSome};
 
+use crate::sights::is_capital;
 use crate::sign::{Kind, first_kind, first_sign, trimmed};
 
 /// What is after a letter with an apostrophe and blanks in front of a text, if they are there.
@@ -38,7 +39,7 @@ fn behind_frame(text: &[u8]) -> Option<&[u8]>
 
 /// Whether one of the bytes is the letter of a turn.
 fn has_turn(text: &[u8]) -> bool {
-    text.iter().any(|byte| matches!(*byte, b'U' | b'D' | b'R' | b'L' | b'F' | b'B'))
+    text.iter().any(|byte| is_capital(*byte))
 }
 
 /// What is after the first R' U' F of a text.
