@@ -142,6 +142,13 @@ fn begins_side(text: &[u8]) -> bool {
     }
 }
 
+/// Whether a text begins with the word for a side, after what ends with "normal" and a sign: that is the side on which
+/// moves are read anyway.
+pub fn is_normal_side(text: &[u8], before: &[u8]) -> bool {
+    let normal = &before[before.len().saturating_sub(7)..];
+    word_length(text, b"side") > 0 && word_length(normal, b"normal") > 0
+}
+
 /// Whether a text begins with letters by which solvers say that moves are made several times.
 fn begins_repetition(text: &[u8]) -> bool {
     word_length(text, b"twice") > 0
