@@ -4,6 +4,22 @@ ghost use Rattle.std.specs.Prelude.{◌≤◌, ◌<◌, length, IfSome};
 use crate::sights::is_capital;
 use crate::sign::{Kind, first_kind, first_sign, trimmed};
 
+/// What is after an apostrophe and blanks in front of a text, if they are there.
+#[inline(never)]
+fn behind_prime(text: &[u8]) -> Option<&[u8]>
+    ensures { IfSome result (λ rest. length rest.now < length text.now) }
+{
+    if text.is_empty() {
+        return None;
+    }
+    let sign = first_sign(text);
+    if sign.kind == Kind::Prime || sign.kind == Kind::Apostrophe {
+        Some(trimmed(&text[sign.length..]))
+    } else {
+        None
+    }
+}
+
 /// What is after a letter with an apostrophe and blanks in front of a text, if they are there.
 #[inline(never)]
 fn behind_primed(text: &[u8], letter: u8) -> Option<&[u8]>
@@ -12,16 +28,7 @@ fn behind_primed(text: &[u8], letter: u8) -> Option<&[u8]>
     if text.is_empty() || text[0] != letter {
         return None;
     }
-    let prime = &text[1..];
-    if prime.is_empty() {
-        return None;
-    }
-    let sign = first_sign(prime);
-    if sign.kind == Kind::Prime || sign.kind == Kind::Apostrophe {
-        Some(trimmed(&prime[sign.length..]))
-    } else {
-        None
-    }
+    behind_prime(&text[1..])
 }
 
 /// What is after R' U' F in front of a text, if they are there.
@@ -106,11 +113,13 @@ pub fn is_whole_scramble(body: &[u8]) -> bool {
     }
 }
 
-/// Whether R' U' F stands somewhere in a text twice in a row, as if one scramble ends where another begins.
+/// Whether R' U' F stands somewhere in a text twice in a row, as if one scramble ends where another begins: an apostrophe
+/// between them may be of the words around.
 fn has_two_frames(text: &[u8]) -> bool {
     let mut rest = text;
     while let Some(behind) = behind_next_frame(rest) {
-        if behind_frame(trimmed(behind)).is_some() {
+        let next = behind_prime(behind).unwrap_or(trimmed(behind));
+        if behind_frame(next).is_some() {
             return true;
         }
         rest = behind;
