@@ -102,14 +102,18 @@ impl Outline {
         }
     }
 
-    /// After one more line, which begins there.
-    fn after(self, line: &Line, at: usize) -> Outline
+    /// After one more line, which begins there and is the first one of a text. After a title that names solutions its
+    /// first moves are no scramble, unless a head says so or they are a whole one.
+    fn after(self, text: &[u8], line: &Line, at: usize) -> Outline
+        requires { line.now.length ≤ length text.now }
         ensures same { result.length ≡ self.length }
         ensures first { self.first ≤ at → result.first ≤ at }
     {
         let mut seen = self;
         if !self.is_found {
             seen.has_name = self.has_name || is_head(line) || (line.is_moves && line.is_whole);
+            seen.has_several =
+                !seen.has_name && (self.has_several || names_solutions(text, line));
             seen.is_found = line.is_moves;
             seen.is_whole = line.is_whole;
             seen.first = at;
@@ -164,7 +168,7 @@ pub fn outline_of(text: &[u8], numbers: Numbers) -> Outline
         } else {
             let line = first_line(rest, numbers);
             has_moves = is_open(&line);
-            seen = seen.after(&line, at);
+            seen = seen.after(rest, &line, at);
             if has_moves && lists_solutions(&rest[whole_length(rest)..], numbers) {
                 seen = seen.before_list(number_of(rest, &line));
             }
