@@ -82,6 +82,9 @@ class Attempt(NamedTuple):
 
 
 NOTHING = PlainLine("", (), ())
+# the steps of a group, and all in one
+_Joined = Tuple[Tuple[PlainLine, ...], PlainLine]
+_NONE: _Joined = (), NOTHING
 # the steps, the solution and the candidates of an attempt
 _AfterScramble = Tuple[Tuple[PlainLine, ...], Optional[PlainLine], Tuple[AttemptCandidate, ...]]
 
@@ -151,7 +154,7 @@ class Reader:
     def lines(self, begin: int, end: int) -> List[TextLine]:
         """Returns those of the lines from one to another that aren't blank, or have only a head."""
         told = TEXT_LINE.iter_unpack(self._told[TEXT_LINE.size * begin : TEXT_LINE.size * end])
-        return [TextLine._make((at, *line)) for at, line in enumerate(told, begin) if line[0] or line[2]]
+        return [_new(TextLine, (at, *line)) for at, line in enumerate(told, begin) if line[0] or line[2]]
 
     def _number(self, at: int, which: int) -> int:
         return self._numbers[_NUMBERS * at + which]
@@ -192,19 +195,22 @@ class Reader:
         moves = self.moves(_OF_STEPS)
         return tuple([moves.of(line, line + 1) for line in lines])
 
-    def _candidate(self, lines: List[TextLine]) -> AttemptCandidate:
-        steps = self._steps([line.at for line in lines if line.kind == STEP])
-        note = " ".join(self._note(line) for line in lines if line.kind == _NOTE)
-        told = next((self._label(line) for line in lines if line.says_solution), "")
-        solution = steps[0] if len(steps) == 1 else self.moves(_OF_STEPS).of(lines[0].at, lines[-1].at + 1)
-        return AttemptCandidate(steps, solution, note or told)
+    def _joined(self, lines: Sequence[int]) -> _Joined:
+        """Returns the moves of the steps of a group, and all in one: no other step stands among them."""
+        steps = self._steps(lines)
+        return steps, steps[0] if len(steps) == 1 else self.moves(_OF_STEPS).of(lines[0], lines[-1] + 1)
 
-    def _candidates(self, lines: Sequence[TextLine]) -> Iterator[AttemptCandidate]:
-        """Returns the groups of an attempt that have steps, but the first one."""
+    def _candidates(self, lines: Sequence[TextLine], made: _Joined, told: Sequence[int]) -> Iterator[AttemptCandidate]:
+        """Returns the groups of an attempt that have steps, but the first one. What is made already is of the steps
+        that are told."""
         for number, group in groupby((line for line in lines if line.kind >= STEP), _GROUP):
             own = list(group)
-            if number > 0 and any(line.kind == STEP for line in own):
-                yield self._candidate(own)
+            at = [line.at for line in own if line.kind == STEP]
+            if number > 0 and at:
+                note = " ".join([self._note(line) for line in own if line.kind == _NOTE])
+                label = next((self._label(line) for line in own if line.says_solution), "")
+                steps, solution = made if at == told else self._joined(at)
+                yield AttemptCandidate(steps, solution, note or label)
 
     def attempt(self, begin: int, end: int, doubt: Optional[AttemptDoubt]) -> Attempt:
         """Returns the attempt that the lines from one to another are, which is in this doubt."""
@@ -225,14 +231,10 @@ class Reader:
         told = [at for at in every if are_solution[at]]
         has_groups = self._number(every[-1], _GROUP_AT) > 0
         under = [at for at in every if self._number(at, _GROUP_AT) == 0] if has_groups else every
-        own = under or told
-        steps = self._steps(own)
-        candidates = tuple(self._candidates(self.lines(begin, end))) if has_groups else ()
-        if told == own and len(own) == 1:
-            return steps, steps[0], candidates
-        # the solution is a group, so no other step stands among its own
-        solution = self.moves(_OF_STEPS).of(told[0], told[-1] + 1) if told else None
-        return steps, solution, candidates
+        made = self._joined(told) if told else _NONE
+        steps = made[0] if not under or under == told else self._steps(under)
+        candidates = tuple(self._candidates(self.lines(begin, end), made, told)) if has_groups else ()
+        return steps, made[1] if told else None, candidates
 
     def doubt(self, number: int, byte: int) -> Optional[AttemptDoubt]:
         """Returns a doubt by the library's number, which is seen at a byte of the text."""
