@@ -2,31 +2,29 @@
 candidates beside it. Nothing of it is called at fault here: what is no line of moves is at fault where it is used."""
 import ctypes
 from itertools import accumulate, groupby
-from operator import and_, attrgetter, ne
+from operator import attrgetter, ne
 from typing import Any, Callable, Dict, Iterator, List, NamedTuple, Optional, Sequence, Tuple
 
 from . import _library
 from ._given import Text, bytes_of
 from ._lazily import Lazily
 from ._library import MOVES_PART, TEXT_LINE
-from ._written import Cuts, PlainLine, TextPlace, Written, WrittenLine, written_by
+from ._written import WHITE, Cuts, PlainLine, TextPlace, Written, WrittenLine, written_by
 
 _BEFORE, SCRAMBLE, STEP, _NOTE = range(1, 5)
 # whose moves the library writes
-_OF_SCRAMBLE, _OF_STEPS, _OF_SOLUTION = range(3)
+_OF_SCRAMBLE, _OF_STEPS = range(2)
 # 1 for each kind of line whose moves these are
 _IS_OF_SCRAMBLE, _IS_STEP = (bytes(kind == wanted for kind in range(256)) for wanted in (SCRAMBLE, STEP))
 _GROUP = attrgetter("group")
 # the bytes of a line that say what it is, whether it is of the solution, whether it has a head, and what its doubt is
 _BYTES = (0, 1, 2, 5)
-# of the numbers of eight bytes that a line is, how many there are, and which of them say its attempt, where it begins,
-# where its head ends, and where its doubt is
-_NUMBERS, _ATTEMPT, _BEGIN, _HEAD_END, _DOUBT_AT = TEXT_LINE.size // 8, 1, 3, 4, 10
-# the white space of the web's scripts
-_WHITE = (
-    "\n\t\v\f\r \u00a0\u1680\u2000\u2001\u2002\u2003\u2004\u2005\u2006\u2007\u2008\u2009\u200a\u2028\u2029\u202f"
-    "\u205f\u3000\ufeff"
-)
+# of the numbers of eight bytes that a line is, how many there are, and which of them say its attempt, its group, where
+# it begins, where its head ends, and where its doubt is
+_NUMBERS, _ATTEMPT, _GROUP_AT, _BEGIN, _HEAD_END, _DOUBT_AT = TEXT_LINE.size // 8, 1, 2, 3, 4, 10
+_PART = MOVES_PART.size
+# the tuple's own way to make a value of its fields, which takes half the time of the class's
+_new = tuple.__new__
 # what makes one doubt a line, by the library's numbers
 _DOUBTS = (
     "",
@@ -84,6 +82,11 @@ class Attempt(NamedTuple):
 
 
 NOTHING = PlainLine("", (), ())
+# the steps of a group, and all in one
+_Joined = Tuple[Tuple[PlainLine, ...], PlainLine]
+_NONE: _Joined = (), NOTHING
+# the steps, the solution and the candidates of an attempt
+_AfterScramble = Tuple[Tuple[PlainLine, ...], Optional[PlainLine], Tuple[AttemptCandidate, ...]]
 
 
 class TextLine(NamedTuple):
@@ -114,19 +117,18 @@ class Moves:
     def __init__(self, whole: Written, written: WrittenLine, nth: Sequence[int], parts: bytearray) -> None:
         # how many lines before each one of the text are wanted, and where their moves stand, with the library's number
         # for what each leaves out
-        self._written, self._nth, self._parts = written, nth, parts
-        self._cuts = Cuts(whole, written)
+        self._nth, self._parts, self._cut = nth, parts, Cuts(whole, written).cut
 
     def of(self, begin: int, end: int) -> PlainLine:
         """Returns the moves of the lines from one to another as one line."""
         first, last = self._nth[begin], self._nth[end]
         if first == last:
             return NOTHING
-        start, stop, left_out = MOVES_PART.unpack_from(self._parts, MOVES_PART.size * first)
+        start, stop, left_out = MOVES_PART.unpack_from(self._parts, _PART * first)
         for nth in range(first + 1, last):
-            _, stop, more = MOVES_PART.unpack_from(self._parts, MOVES_PART.size * nth)
+            _, stop, more = MOVES_PART.unpack_from(self._parts, _PART * nth)
             left_out |= more
-        return self._cuts.cut(start, stop, left_out)
+        return self._cut(start, stop, left_out)
 
 
 class Reader:
@@ -144,14 +146,15 @@ class Reader:
         self._kinds, self._are_solution, self._are_headed, self._doubts = (
             bytes(self._told[at :: TEXT_LINE.size]) for at in _BYTES
         )
-        self._numbers, self._has_doubts = self._told.cast("Q"), any(self._doubts)
+        self._numbers = self._told.cast("Q")
+        self._begins, self._head_ends = (self._numbers[at::_NUMBERS] for at in (_BEGIN, _HEAD_END))
         # by whose they are
         self._moves: Dict[int, Moves] = {}
 
     def lines(self, begin: int, end: int) -> List[TextLine]:
         """Returns those of the lines from one to another that aren't blank, or have only a head."""
         told = TEXT_LINE.iter_unpack(self._told[TEXT_LINE.size * begin : TEXT_LINE.size * end])
-        return [TextLine._make((at, *line)) for at, line in enumerate(told, begin) if line[0] or line[2]]
+        return [_new(TextLine, (at, *line)) for at, line in enumerate(told, begin) if line[0] or line[2]]
 
     def _number(self, at: int, which: int) -> int:
         return self._numbers[_NUMBERS * at + which]
@@ -166,10 +169,8 @@ class Reader:
     def moves(self, which: int) -> Moves:
         """Returns the moves of all lines that are wanted."""
         if which not in self._moves:
-            is_of_kind = self._kinds.translate(_IS_OF_SCRAMBLE if which == _OF_SCRAMBLE else _IS_STEP)
-            wanted = map(and_, is_of_kind, self._are_solution) if which == _OF_SOLUTION else is_of_kind
-            nth = [0, *accumulate(wanted)]
-            room = bytearray(MOVES_PART.size * nth[-1] + 1)
+            nth = [0, *accumulate(self._kinds.translate(_IS_OF_SCRAMBLE if which == _OF_SCRAMBLE else _IS_STEP))]
+            room = bytearray(_PART * nth[-1] + 1)
             parts = (ctypes.addressof(ctypes.c_char.from_buffer(room)), nth[-1])
             written = written_by(
                 3 * (len(self.data) + self.count),
@@ -180,68 +181,66 @@ class Reader:
             self._moves[which] = Moves(self.whole, written, nth, room)
         return self._moves[which]
 
-    def _steps(self, lines: Sequence[TextLine]) -> Tuple[PlainLine, ...]:
-        moves = self.moves(_OF_STEPS)
-        return tuple(moves.of(line.at, line.at + 1) for line in lines)
-
-    def place(self, byte: int) -> TextPlace:
-        """Returns the place of a byte in the whole text."""
-        return self.whole.place(self.whole.at(byte))
-
-    def words(self, begin: int, end: int) -> str:
-        """Returns some bytes as words."""
-        return self.whole.part(begin, end).strip(_WHITE)
-
     def _note(self, line: TextLine) -> str:
         """Returns what a line without moves says: its label, if nothing follows that, else all of it."""
-        if line.label_begin < line.label_end and not self.words(line.moves, line.end):
+        if line.label_begin < line.label_end and not self.whole.words(line.moves, line.end):
             return self._label(line)
-        said = self.words(line.head_end, line.end)
-        return said[2:].strip(_WHITE) if said.startswith("//") else said
-
-    def name(self, begin: int, end: int) -> str:
-        """Returns the first head among the lines from one to another, or nothing."""
-        at = _NUMBERS * self._are_headed.find(1, begin, end)
-        return self.words(self._numbers[at + _BEGIN], self._numbers[at + _HEAD_END]) if at >= 0 else ""
+        said = self.whole.words(line.head_end, line.end)
+        return said[2:].strip(WHITE) if said.startswith("//") else said
 
     def _label(self, line: TextLine) -> str:
-        return self.words(line.label_begin, line.label_end)
+        return self.whole.words(line.label_begin, line.label_end)
 
-    def _candidate(self, lines: List[TextLine]) -> AttemptCandidate:
-        steps = self._steps([line for line in lines if line.kind == STEP])
-        note = " ".join(self._note(line) for line in lines if line.kind == _NOTE)
-        told = next((self._label(line) for line in lines if line.says_solution), "")
-        solution = steps[0] if len(steps) == 1 else self.moves(_OF_STEPS).of(lines[0].at, lines[-1].at + 1)
-        return AttemptCandidate(steps, solution, note or told)
+    def _steps(self, lines: Sequence[int]) -> Tuple[PlainLine, ...]:
+        moves = self.moves(_OF_STEPS)
+        return tuple([moves.of(line, line + 1) for line in lines])
 
-    def _candidates(self, lines: Sequence[TextLine]) -> Iterator[AttemptCandidate]:
-        """Returns the groups of an attempt that have steps, but the first one."""
+    def _joined(self, lines: Sequence[int]) -> _Joined:
+        """Returns the moves of the steps of a group, and all in one: no other step stands among them."""
+        steps = self._steps(lines)
+        return steps, steps[0] if len(steps) == 1 else self.moves(_OF_STEPS).of(lines[0], lines[-1] + 1)
+
+    def _candidates(self, lines: Sequence[TextLine], made: _Joined, told: Sequence[int]) -> Iterator[AttemptCandidate]:
+        """Returns the groups of an attempt that have steps, but the first one. What is made already is of the steps
+        that are told."""
         for number, group in groupby((line for line in lines if line.kind >= STEP), _GROUP):
             own = list(group)
-            if number > 0 and any(line.kind == STEP for line in own):
-                yield self._candidate(own)
+            at = [line.at for line in own if line.kind == STEP]
+            if number > 0 and at:
+                note = " ".join([self._note(line) for line in own if line.kind == _NOTE])
+                label = next((self._label(line) for line in own if line.says_solution), "")
+                steps, solution = made if at == told else self._joined(at)
+                yield AttemptCandidate(steps, solution, note or label)
 
-    def attempt(self, begin: int, end: int) -> Attempt:
-        """Returns the attempt that the lines from one to another are."""
-        before = self._kinds.count(_BEFORE, begin, end)
-        doubt = self._doubt(begin, end) if self._has_doubts else None
-        made = Attempt(self.name(begin, end), self.moves(_OF_SCRAMBLE).of(begin, end), (), None, (), before, doubt)
-        return made if self._kinds.find(STEP, begin, end) < 0 else self._with_steps(made, self.lines(begin, end))
+    def attempt(self, begin: int, end: int, doubt: Optional[AttemptDoubt]) -> Attempt:
+        """Returns the attempt that the lines from one to another are, which is in this doubt."""
+        moves = self._moves.get(_OF_SCRAMBLE) or self.moves(_OF_SCRAMBLE)
+        scramble, before = moves.of(begin, end), self._kinds.count(_BEFORE, begin, end)
+        # the first head
+        headed = self._are_headed.find(1, begin, end)
+        name = self.whole.words(self._begins[headed], self._head_ends[headed]) if headed >= 0 else ""
+        if self._kinds.find(STEP, begin, end) < 0:
+            return _new(Attempt, (name, scramble, (), None, (), before, doubt))
+        steps, solution, candidates = self._after_scramble(begin, end)
+        return _new(Attempt, (name, scramble, steps, solution, candidates, before, doubt))
 
-    def _with_steps(self, attempt: Attempt, lines: Sequence[TextLine]) -> Attempt:
-        all_steps = [line for line in lines if line.kind == STEP]
-        told = [line for line in all_steps if line.is_solution]
-        return attempt._replace(
-            steps=self._steps([line for line in all_steps if line.group == 0] or told),
-            solution=self.moves(_OF_SOLUTION).of(told[0].at, told[-1].at + 1) if told else None,
-            candidates=tuple(self._candidates(lines)) if lines[-1].group > 0 else (),
-        )
+    def _after_scramble(self, begin: int, end: int) -> _AfterScramble:
+        """Returns the steps, the solution and the candidates of an attempt that has steps."""
+        kinds, are_solution = self._kinds, self._are_solution
+        every = [at for at in range(begin, end) if kinds[at] == STEP]
+        told = [at for at in every if are_solution[at]]
+        has_groups = self._number(every[-1], _GROUP_AT) > 0
+        under = [at for at in every if self._number(at, _GROUP_AT) == 0] if has_groups else every
+        made = self._joined(told) if told else _NONE
+        steps = made[0] if not under or under == told else self._steps(under)
+        candidates = tuple(self._candidates(self.lines(begin, end), made, told)) if has_groups else ()
+        return steps, made[1] if told else None, candidates
 
     def doubt(self, number: int, byte: int) -> Optional[AttemptDoubt]:
         """Returns a doubt by the library's number, which is seen at a byte of the text."""
-        return AttemptDoubt(_DOUBTS[number], self.place(byte)) if number else None
+        return _new(AttemptDoubt, (_DOUBTS[number], self.whole.place_of_byte(byte))) if number else None
 
-    def _doubt(self, begin: int, end: int) -> Optional[AttemptDoubt]:
+    def doubt_among(self, begin: int, end: int) -> Optional[AttemptDoubt]:
         """Returns what makes one doubt the first line that is in doubt."""
         doubts = self._doubts[begin:end].lstrip(b"\0")
         return self.doubt(doubts[0], self._number(end - len(doubts), _DOUBT_AT)) if doubts else None
@@ -253,4 +252,4 @@ def read_attempts(text: Text) -> Sequence[Attempt]:
     same of several numbered scrambles. A text of another form is one scramble."""
     reader = Reader(Written(text))
     attempts = reader.attempts() or [(0, 0)]
-    return Lazily(len(attempts), lambda at: reader.attempt(*attempts[at]))
+    return Lazily(len(attempts), lambda at: reader.attempt(*attempts[at], reader.doubt_among(*attempts[at])))

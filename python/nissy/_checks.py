@@ -5,19 +5,23 @@ from typing import Any, Dict, Iterable, List, NamedTuple, Optional, Sequence, Tu
 
 from . import _library, _rooms
 from ._attempts import NOTHING, Attempt, AttemptDoubt, Reader
-from ._facts import Check, check_of
+from ._facts import Check, check_by_numbers
 from ._given import Text, bytes_of, each_of
 from ._lazily import Lazily
-from ._library import ATTEMPT_CHECK, DONE, KNOWN_PART, MOST_INPUT
-from ._lines import fault_of
-from ._tokens import places_of
-from ._values import LineFault
-from ._written import PlainLine, TextPlace, Written, end_unless_made, place_in, string_of
+from ._library import ATTEMPT_CHECK, DONE, FAULT, KNOWN_PART, MOST_INPUT
+from ._lines import fault_of, fault_text
+from ._tokens import forms_of
+from ._values import Fault, LineFault
+from ._written import PlainLine, TextPlace, Written, end_unless_made, string_of
 
+# the numbers of `nissy_attempt_check` of nissy_text.h
+_Told = Tuple[Any, ...]
 # the library's numbers of no scramble and of no place, and of the doubt of a part, which isn't one of the reading
 _NONE, _A_PART = 2**64 - 1, 9
 # a text as long as that has as many bytes written of it and of its lines as are never too few
 _MOST_OF_BYTE, _PLACE = 6, 8
+# the tuple's own way to make a value of its fields, which takes half the time of the class's
+_new = tuple.__new__
 
 
 class FormInText(NamedTuple):
@@ -63,29 +67,6 @@ class AttemptCheck(NamedTuple):
         }
 
 
-class _Told(NamedTuple):
-    """`nissy_attempt_check` of nissy_text.h."""
-
-    scramble: int
-    name_begin: int
-    name_end: int
-    first_line: int
-    end_line: int
-    fault_at: int
-    doubt_at: int
-    doubt: int
-    is_doubted: bool
-    is_checked: bool
-    status: int
-    fault: int
-    line: int
-    solved: int
-    column: int
-    moves: int
-    clean_moves: int
-    forms: int
-
-
 class _Checks:
     """What the library tells of the attempts of a text, or of the solutions of scrambles that are known."""
 
@@ -126,56 +107,72 @@ class _Checks:
     def all(self) -> Sequence[AttemptCheck]:
         """Returns what is said of each, at least one of a text of attempts; of solutions by their scrambles, and then
         of those of which it can't be seen which that is."""
+        size = ATTEMPT_CHECK.size
         if self._scrambles is None:
-            return Lazily(max(self._count, 1), self._made)
-        told = [self._made(at) for at in range(len(self._scrambles))]
-        others = []
-        for at in range(len(told), self._count):
-            scramble = self._told(at).scramble
-            if scramble == _NONE:
-                others.append(self._made(at))
+            each = memoryview(self._room)[: size * max(self._count, 1)]
+            made = self._made
+            return Lazily(
+                max(self._count, 1),
+                lambda at: made(ATTEMPT_CHECK.unpack_from(each, size * at)),
+                lambda: map(made, ATTEMPT_CHECK.iter_unpack(each)),
+            )
+        every = [*ATTEMPT_CHECK.iter_unpack(memoryview(self._room)[: size * self._count])]
+        known = len(self._scrambles)
+        told, others = [self._made(it) for it in every[:known]], []
+        for it in every[known:]:
+            if it[0] == _NONE:
+                others.append(self._made(it))
             else:
-                told[scramble] = self._made(at)
+                told[it[0]] = self._made(it)
         return told + others
 
-    def _told(self, at: int) -> _Told:
-        return _Told._make(ATTEMPT_CHECK.unpack_from(self._room, ATTEMPT_CHECK.size * at))
-
-    def _made(self, at: int) -> AttemptCheck:
+    def _made(self, told: _Told) -> AttemptCheck:
         """Returns what is said of an attempt. Raises Fault if a line of it has too many bytes."""
-        told, reader = self._told(at), self._reader
-        attempt = reader.attempt(told.first_line, told.end_line)
-        doubt = reader.doubt(told.doubt, told.doubt_at) if told.doubt else None
+        _, _, _, first, end, fault_at, doubt_at, number, is_doubted, is_checked, *answer = told
+        status, fault, line, solved, column, moves, clean_moves, forms = answer
+        doubt = self._reader.doubt(number, doubt_at) if number else None
+        # that of its reading
+        read = None if number == _A_PART else doubt
+        attempt = self._reader.attempt(first, end, read)
         if self._scrambles is not None:
-            read = None if told.doubt == _A_PART else doubt
-            attempt = attempt._replace(name=reader.words(told.name_begin, told.name_end), doubt=read)
-            if attempt.scramble is NOTHING and told.scramble != _NONE:
-                attempt = attempt._replace(scramble=PlainLine(self._scrambles[told.scramble], (), ()))
-        if told.status != DONE:
-            place = None if told.fault_at == _NONE else reader.place(told.fault_at)
-            return AttemptCheck(attempt, None, _fault(attempt, told), place, ())
-        doubt = doubt if told.is_doubted else None
-        if attempt.solution is None or not told.is_checked:
-            return AttemptCheck(attempt, None, None, None, (), doubt)
-        forms = _forms_in(attempt.solution, self._whole) if told.forms else ()
-        return AttemptCheck(attempt, check_of(told), None, None, forms, doubt)
+            attempt = self._of_known(attempt, told)
+        if status != DONE:
+            place = None if fault_at == _NONE else self._whole.place_of_byte(fault_at)
+            return _new(AttemptCheck, (attempt, None, _fault(attempt, status, fault, column, line), place, (), None))
+        doubt = doubt if is_doubted else None
+        if attempt.solution is None or not is_checked:
+            return _new(AttemptCheck, (attempt, None, None, None, (), doubt))
+        places = _forms_in(attempt.solution, self._whole) if forms else ()
+        check = check_by_numbers(solved, moves, clean_moves, forms)
+        return _new(AttemptCheck, (attempt, check, None, None, places, doubt))
+
+    def _of_known(self, attempt: Attempt, told: _Told) -> Attempt:
+        """Returns an attempt with the name of its part and its scramble, if that is known."""
+        scramble, name_begin, name_end = told[:3]
+        named = attempt._replace(name=self._whole.words(name_begin, name_end))
+        if self._scrambles is None or attempt.scramble is not NOTHING or scramble == _NONE:
+            return named
+        return named._replace(scramble=PlainLine(self._scrambles[scramble], (), ()))
 
 
-def _fault(attempt: Attempt, told: _Told) -> LineFault:
+def _fault(attempt: Attempt, status: int, fault: int, column: int, number: int) -> LineFault:
     """Returns the fault of the scramble or the solution. Raises Fault if it has too many bytes."""
-    part = "scramble" if told.line == 1 else "solution"
-    line = (getattr(attempt, part) or NOTHING).line
-    # of one in ASCII each byte is a character
-    fault = fault_of(told.status, told.fault, told.column, b"" if line.isascii() else bytes_of(line, ""), told.line)
-    fault.part = part
-    if isinstance(fault, LineFault):
-        return fault
-    raise fault
+    part, plain = ("scramble", attempt.scramble) if number == 1 else ("solution", attempt.solution or NOTHING)
+    if status == FAULT and plain.line.isascii():
+        # each byte is a character
+        made: Fault = LineFault(column, fault_text(fault), number, column)
+    else:
+        made = fault_of(status, fault, column, bytes_of(plain.line, ""), number)
+    made.part = part
+    if isinstance(made, LineFault):
+        return made
+    raise made
 
 
 def _forms_in(solution: PlainLine, whole: Written) -> Tuple[FormInText, ...]:
     """Returns where a solution that was read has forms."""
-    return tuple(FormInText(it.text, it.forms, whole.place(place_in(it, solution))) for it in places_of(solution.line))
+    found = forms_of(solution.line)
+    return tuple([_new(FormInText, (text, forms, whole.place(solution.places[at]))) for text, forms, at in found])
 
 
 def check_attempts(text: Text, *, scrambles: Optional[Iterable[Text]] = None) -> Sequence[AttemptCheck]:

@@ -271,5 +271,10 @@ def told_of(given: Tuple[bytes, bytes], other: str) -> Union[Check, Fault]:
 
 
 def check_of(answer: Any) -> Check:
-    """Returns what an answer tells of lines that were read, by its numbers."""
-    return Check(answer.solved == 1, answer.moves, answer.clean_moves, _forms(answer.forms))
+    """Returns what an answer tells of lines that were read."""
+    return check_by_numbers(answer.solved, answer.moves, answer.clean_moves, answer.forms)
+
+
+def check_by_numbers(solved: int, moves: int, clean_moves: int, forms: int) -> Check:
+    """Returns the same by its numbers."""
+    return Check(solved == 1, moves, clean_moves, _forms(forms))

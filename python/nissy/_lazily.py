@@ -1,23 +1,20 @@
 """A list whose values are made when they are asked for."""
-from typing import Any, Callable, Generic, Iterator, List, Sequence, Tuple, TypeVar, Union, overload
+from typing import Any, Callable, Generic, Iterator, List, Optional, Sequence, Tuple, TypeVar, Union, overload
 
 Value = TypeVar("Value")
-Made = TypeVar("Made")
 
 
 class Lazily(Sequence[Value], Generic[Value]):
     """So many values, each made anew whenever it is asked for: of a long text who reads one attempt after another has
     only that one in memory. It equals each sequence of the same values."""
 
-    __slots__ = ("_count", "_make")
+    __slots__ = ("_count", "_make", "_each")
 
-    def __init__(self, count: int, make: Callable[[int], Value]) -> None:
-        self._count, self._make = count, make
-
-    def map(self, change: Callable[[Value], Made]) -> "Lazily[Made]":
-        """Returns the same with each value changed."""
-        make = self._make
-        return Lazily(self._count, lambda at: change(make(at)))
+    def __init__(
+        self, count: int, make: Callable[[int], Value], each: Optional[Callable[[], Iterator[Value]]] = None
+    ) -> None:
+        # `each` makes one after another, if that is done sooner than by their numbers
+        self._count, self._make, self._each = count, make, each
 
     def __len__(self) -> int:
         return self._count
@@ -35,7 +32,7 @@ class Lazily(Sequence[Value], Generic[Value]):
         return self._make(numbers) if isinstance(numbers, int) else list(map(self._make, numbers))
 
     def __iter__(self) -> Iterator[Value]:
-        return map(self._make, range(self._count))
+        return map(self._make, range(self._count)) if self._each is None else self._each()
 
     def __eq__(self, other: object) -> bool:
         return isinstance(other, (Lazily, list, tuple)) and len(other) == self._count and list(self) == list(other)

@@ -2,7 +2,7 @@
 import re
 import sys
 from functools import lru_cache
-from typing import Dict, List, NamedTuple, Tuple
+from typing import Dict, Iterator, List, NamedTuple, Tuple
 
 from ._given import Text, bytes_of
 from ._lines import unniss
@@ -17,6 +17,7 @@ else:
 # a bracket, or a move: its letters, and what follows them; the line was read by the library before
 _ITEM = re.compile("([()])|([UDRLFB]w?|[udrlfbMESxyz])(2?['\u2019]|2)?")
 _QUARTERS = {"": 1, "2": 2, "'": -1, "\u2019": -1, "2'": 2, "2\u2019": 2}
+_APOSTROPHE = "\u2019"
 _SUFFIXES = {1: "", 2: "2", -1: "'"}
 _NEAR, _FAR, _MIDDLE = (1,), (-1,), (0,)
 # the axis of each move, its layers there, and whether it turns as its axis does (1) or the other way round (-1)
@@ -103,18 +104,19 @@ def form_places(line: Text) -> List[FormPlace]:
     of `check`. Raises LineFault."""
     data = bytes_of(line, "the line")
     unniss(data)
-    return places_of(data.decode())
-
-
-def places_of(text: str) -> List[FormPlace]:
-    """Returns the same of a line that the library has read."""
-    found, item_end, column = [], 0, 1
-    for it in _ITEM.finditer(text):
-        # what was counted before isn't counted again
-        column += len(text[item_end : it.start()].encode())
-        forms = _forms_of(it.group())
-        if forms:
-            found.append(FormPlace(it.group(), forms, column, it.start() + 1))
-        column += len(it.group().encode())
-        item_end = it.end()
+    # each apostrophe beyond ASCII has two bytes more, and no other sign of a line that is read has
+    text, more, found = data.decode(), 0, []
+    for item, forms, at in forms_of(text):
+        found.append(FormPlace(item, forms, at + more + 1, at + 1))
+        more += 2 * item.count(_APOSTROPHE)
     return found
+
+
+def forms_of(text: str) -> Iterator[Tuple[str, Tuple[str, ...], int]]:
+    """Yields each move and bracket that has forms, of a line that the library has read, with these and its place, from
+    0."""
+    for it in _ITEM.finditer(text):
+        item = it.group()
+        forms = _forms_of(item)
+        if forms:
+            yield item, forms, it.start()

@@ -107,7 +107,10 @@ class LineFault(Fault):
     what is wrong there. If it is one of many lines, `line` is its number, from 1."""
 
     def __init__(self, column: int, text: str, line: Optional[int] = None, character: Optional[int] = None) -> None:
-        super().__init__(text, line)
+        # of a long text there may be many
+        ValueError.__init__(self, text)
+        self.text = text
+        self.line = line
         self.column = column
         self.character = column if character is None else character
 

@@ -1,6 +1,5 @@
 """Reads text as solvers write it, by the library: what is no move but is written beside moves becomes a blank or an
 apostrophe, or is left out. What comes of it is a line for the other calls, or it is at fault there."""
-import re
 from bisect import bisect_right
 from itertools import accumulate, chain, compress, islice
 from typing import Any, Callable, Iterable, List, NamedTuple, Optional, Sequence, Tuple, Union, overload
@@ -17,8 +16,15 @@ _LEFT_OUT = [tuple(name for bit, name in enumerate(_NAMES) if number >> bit & 1)
 _APOSTROPHES = "\u2018\u02bc\u2032\u00b4`"
 _SHORTER = ((b"`", 2), (b"\xc2\xb4", 1), (b"\xca\xbc", 1))
 _PLACE = 8
+# the white space of the web's scripts
+WHITE = (
+    "\n\t\v\f\r \u00a0\u1680\u2000\u2001\u2002\u2003\u2004\u2005\u2006\u2007\u2008\u2009\u200a\u2028\u2029\u202f"
+    "\u205f\u3000\ufeff"
+)
 # bytes that a line may have in place of others
 _OWN = b" ()"
+# the tuple's own way to make a value of its fields, which takes half the time of the class's
+_new = tuple.__new__
 # 1 for each byte with which a sign begins, of a text in UTF-8
 _BEGINS = bytes(byte & 0xC0 != 0x80 for byte in range(256))
 
@@ -109,9 +115,6 @@ class Written:
             sizes = (len(bytes_of(sign, "")) for sign in self.text)
             self._characters = [*chain(*([at] * size for at, size in enumerate(sizes))), len(self.text)]
 
-    def at(self, byte: int) -> int:
-        return byte if self._characters is None else self._characters[byte]
-
     def each_at(self, places: Iterable[int]) -> Iterable[int]:
         """Returns the character of each byte."""
         return places if self._characters is None else map(self._characters.__getitem__, places)
@@ -119,16 +122,28 @@ class Written:
     def place(self, at: int) -> TextPlace:
         """Returns the place of a character. Lines are looked for once."""
         if not self._lines:
-            ends = re.finditer("\r\n|\r|\n", self.text)
-            self._lines = [0, *(it.end() for it in ends)]
+            self._lines = self._begins()
         # between the two signs of a line's end the next line begins
         is_between = self._has_pairs and at > 0 and self.text[at - 1 : at + 1] == "\r\n"
         line = bisect_right(self._lines, at + is_between)
-        return TextPlace(at, line, at - self._lines[line - 1] + 1 or 1)
+        return _new(TextPlace, (at, line, at - self._lines[line - 1] + 1 or 1))
 
-    def part(self, begin: int, end: int) -> str:
+    def _begins(self) -> List[int]:
+        """Returns where each line begins."""
+        ends = accumulate(map(len, self.data.splitlines(keepends=True)))
+        begins = [0, *self.each_at(ends)]
+        # at the end of the text a line begins only behind another's end
+        return begins if not self.data or self.data[-1] in b"\r\n" else begins[:-1]
+
+    def place_of_byte(self, byte: int) -> TextPlace:
+        return self.place(byte if self._characters is None else self._characters[byte])
+
+    def words(self, begin: int, end: int) -> str:
+        """Returns some bytes as words."""
         characters = self._characters
-        return self.text[begin:end] if characters is None else self.text[characters[begin] : characters[end]]
+        if characters is not None:
+            begin, end = characters[begin], characters[end]
+        return self.text[begin:end].strip(WHITE)
 
     def plain(self, written: WrittenLine) -> PlainLine:
         """Returns a line that was written of this text."""
@@ -174,7 +189,7 @@ class Cuts:
         if self._counts is not None:
             begin, end = self._counts[begin], self._counts[end]
         line, places = self._signs
-        return PlainLine(line[begin:end], tuple(places[begin:end]), _LEFT_OUT[left_out])
+        return _new(PlainLine, (line[begin:end], tuple(places[begin:end]), _LEFT_OUT[left_out]))
 
 
 def plain_line(text: Text) -> PlainLine:

@@ -9,6 +9,7 @@ import random
 import sys
 import time
 from pathlib import Path
+from types import FrameType
 from typing import Dict, Iterator
 
 sys.path[:0] = [str(Path(__file__).resolve().parents[1]), str(Path(__file__).resolve().parents[2] / "python")]
@@ -143,6 +144,35 @@ def doubts(tally: Tally) -> None:
         tally.equal(f"no doubt of {text!r}", [it.doubt for it in nissy.check_attempts(text)], [None])
 
 
+def calls_of(text: str) -> float:
+    """How many functions of Python are called for each attempt of a text, once the library has told of all."""
+    checks, calls = nissy.check_attempts(text), 0
+
+    def seen(_frame: FrameType, event: str, _arg: object) -> None:
+        nonlocal calls
+        calls += event == "call"
+
+    # lines are looked for once
+    list(checks)
+    sys.setprofile(seen)
+    list(checks)
+    sys.setprofile(None)
+    return calls / len(checks)
+
+
+def calls(tally: Tally) -> None:
+    """What is told of an attempt takes few calls, into which most of the time of short ones goes."""
+    most = {
+        "1. R Q\n": 12,
+        "1. R U F\n\nF\u2019 U\u2019 R\u2019\n\n": 55,
+        "1. R U F\nR' U' // inverse\nF // EO\n\n": 40,
+        f"{FIRST}\n{OF_FIRST} R\n": 20,
+    }
+    for piece, bound in most.items():
+        count = calls_of(piece * 100)
+        tally.holds(f"an attempt of {piece!r} takes at most {bound} calls: {count}", count <= bound)
+
+
 def times(tally: Tally) -> None:
     """A megabyte is read in a time by its length, on a processor, of which a busy machine has others' work too."""
     for piece in (
@@ -172,4 +202,4 @@ def times(tally: Tally) -> None:
 
 
 if __name__ == "__main__":
-    tried(kinds, slips, doubts, times)
+    tried(kinds, slips, doubts, calls, times)

@@ -1,7 +1,24 @@
 //! Whether what stands in a line is all of a scramble.
 ghost use Rattle.std.specs.Prelude.{◌≤◌, ◌<◌, length, IfSome};
 
+use crate::sights::is_capital;
 use crate::sign::{Kind, first_kind, first_sign, trimmed};
+
+/// What is after an apostrophe and blanks in front of a text, if they are there.
+#[inline(never)]
+fn behind_prime(text: &[u8]) -> Option<&[u8]>
+    ensures { IfSome result (λ rest. length rest.now < length text.now) }
+{
+    if text.is_empty() {
+        return None;
+    }
+    let sign = first_sign(text);
+    if sign.kind == Kind::Prime || sign.kind == Kind::Apostrophe {
+        Some(trimmed(&text[sign.length..]))
+    } else {
+        None
+    }
+}
 
 /// What is after a letter with an apostrophe and blanks in front of a text, if they are there.
 #[inline(never)]
@@ -11,16 +28,7 @@ fn behind_primed(text: &[u8], letter: u8) -> Option<&[u8]>
     if text.is_empty() || text[0] != letter {
         return None;
     }
-    let prime = &text[1..];
-    if prime.is_empty() {
-        return None;
-    }
-    let sign = first_sign(prime);
-    if sign.kind == Kind::Prime || sign.kind == Kind::Apostrophe {
-        Some(trimmed(&prime[sign.length..]))
-    } else {
-        None
-    }
+    behind_prime(&text[1..])
 }
 
 /// What is after R' U' F in front of a text, if they are there.
@@ -38,7 +46,7 @@ fn behind_frame(text: &[u8]) -> Option<&[u8]>
 
 /// Whether one of the bytes is the letter of a turn.
 fn has_turn(text: &[u8]) -> bool {
-    text.iter().any(|byte| matches!(*byte, b'U' | b'D' | b'R' | b'L' | b'F' | b'B'))
+    text.iter().any(|byte| is_capital(*byte))
 }
 
 /// What is after the first R' U' F of a text.
@@ -105,11 +113,13 @@ pub fn is_whole_scramble(body: &[u8]) -> bool {
     }
 }
 
-/// Whether R' U' F stands somewhere in a text twice in a row, as if one scramble ends where another begins.
+/// Whether R' U' F stands somewhere in a text twice in a row, as if one scramble ends where another begins: an apostrophe
+/// between them may be of the words around.
 fn has_two_frames(text: &[u8]) -> bool {
     let mut rest = text;
     while let Some(behind) = behind_next_frame(rest) {
-        if behind_frame(trimmed(behind)).is_some() {
+        let next = behind_prime(behind).unwrap_or(trimmed(behind));
+        if behind_frame(next).is_some() {
             return true;
         }
         rest = behind;

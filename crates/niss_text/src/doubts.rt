@@ -12,7 +12,7 @@ use crate::marks::{defined_mark, is_mark, times_at_end, times_said};
 use crate::sights::{Sight, first_seen, is_letter};
 use crate::text_line::{LineKind, TextLine};
 use crate::word::has_three_moves;
-use crate::words::{Topic, Wanted, first_topic, says, word_length};
+use crate::words::{Topic, Wanted, first_topic, is_normal_side, says, word_length};
 
 /// A reason for a doubt.
 #[derive(Clone, Copy, PartialEq, Eq)]
@@ -122,6 +122,9 @@ fn first_said(text: &[u8], from: usize, to: usize, has_brackets: bool) -> (Doubt
     for at in from..to {
         let rest = &text[at..to];
         let is_begun = at == from || !is_letter(text[at.saturating_sub(1)]);
+        if is_normal_side(rest, &text[from..at]) {
+            continue;
+        }
         if is_begun || (matches!(text[at], b'i' | b'I') && word_length(rest, b"inv") > 0) {
             let doubt = doubt_of_words(rest, has_brackets);
             if doubt != Doubt::Nothing {

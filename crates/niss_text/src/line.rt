@@ -345,10 +345,11 @@ pub fn may_begin(text: &[u8], numbers: Numbers) -> bool {
     head_of(&line[blanks(line)..], numbers).0 != Head::None || has_frame(line)
 }
 
-/// Whether the first line of a text names solutions, and has no moves.
-pub fn names_solutions(text: &[u8]) -> bool {
-    let line = &text[..line_length(text)];
-    has_word(line, b"solutions") && !line_of(line, Numbers::OfLines).is_moves
+/// Whether a line, which is the first one of a text, names solutions and has no moves.
+pub fn names_solutions(text: &[u8], line: &Line) -> bool
+    requires { line.now.length ≤ length text.now }
+{
+    !line.is_moves && has_word(&text[..line.length], b"solutions")
 }
 
 /// The first line of a text.

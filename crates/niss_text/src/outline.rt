@@ -41,15 +41,17 @@ fn next_at(text: &[u8], numbers: Numbers, is_numbered: bool) -> Next {
     }
 }
 
-/// What is after the blank lines that a text begins with.
-fn behind_blank_lines(text: &[u8]) -> &[u8]
-    ensures { length result.now ≤ length text.now }
+/// The first line of a text that isn't blank, with the text from there on; a blank one if there is no other.
+fn first_filled_line(text: &[u8], numbers: Numbers) -> (Line, &[u8])
+    ensures line { result.0.length ≤ length result.1.now }
 {
     let mut rest = text;
-    while !rest.is_empty() && first_line(rest, Numbers::OfLines).is_blank {
+    let mut line = first_line(rest, numbers);
+    while !rest.is_empty() && line.is_blank {
         rest = &rest[whole_length(rest)..];
+        line = first_line(rest, numbers);
     }
-    rest
+    (line, rest)
 }
 
 /// The number of the head of a line, which is the first one of a text.
@@ -61,12 +63,11 @@ fn number_of(text: &[u8], line: &Line) -> Option<usize>
 
 /// Whether a text begins with a list of solutions: with a line that names them, and one with moves and the number 1.
 fn lists_solutions(text: &[u8], numbers: Numbers) -> bool {
-    let title = behind_blank_lines(text);
-    if title.is_empty() || !names_solutions(title) {
+    let (title, titled) = first_filled_line(text, Numbers::OfLines);
+    if !names_solutions(titled, &title) {
         return false;
     }
-    let list = behind_blank_lines(&title[whole_length(title)..]);
-    let line = first_line(list, numbers);
+    let (line, list) = first_filled_line(&titled[title.length..], numbers);
     line.head_kind == Head::Number && line.is_moves && number_of(list, &line) == Some(1)
 }
 
@@ -101,14 +102,17 @@ impl Outline {
         }
     }
 
-    /// After one more line, which begins there.
-    fn after(self, line: &Line, at: usize) -> Outline
+    /// After one more line, which begins there and is the first one of a text. After a title that names solutions its
+    /// first moves are no scramble, unless a head says so or they are a whole one.
+    fn after(self, text: &[u8], line: &Line, at: usize) -> Outline
+        requires { line.now.length ≤ length text.now }
         ensures same { result.length ≡ self.length }
         ensures first { self.first ≤ at → result.first ≤ at }
     {
         let mut seen = self;
         if !self.is_found {
             seen.has_name = self.has_name || is_head(line) || (line.is_moves && line.is_whole);
+            seen.has_several = !seen.has_name && (self.has_several || names_solutions(text, line));
             seen.is_found = line.is_moves;
             seen.is_whole = line.is_whole;
             seen.first = at;
@@ -163,7 +167,7 @@ pub fn outline_of(text: &[u8], numbers: Numbers) -> Outline
         } else {
             let line = first_line(rest, numbers);
             has_moves = is_open(&line);
-            seen = seen.after(&line, at);
+            seen = seen.after(rest, &line, at);
             if has_moves && lists_solutions(&rest[whole_length(rest)..], numbers) {
                 seen = seen.before_list(number_of(rest, &line));
             }

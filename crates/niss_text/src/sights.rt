@@ -53,7 +53,7 @@ fn is_small(byte: u8) -> bool
 }
 
 /// Whether a byte is a capital letter of an outer turn.
-fn is_capital(byte: u8) -> bool
+pub fn is_capital(byte: u8) -> bool
     ensures { result ≡ is_capital byte }
 {
     matches!(byte, b'U' | b'D' | b'R' | b'L' | b'F' | b'B')

@@ -1,7 +1,7 @@
 //! Words in a text, in capitals or small letters.
 ghost use Rattle.std.specs.Prelude.{◌≤◌, length};
 
-use crate::sign::{Class, length_of};
+use crate::sign::{Class, Kind, first_kind, length_of, trimmed};
 
 /// A letter of ASCII as a small one.
 fn small(byte: u8) -> u8 {
@@ -132,7 +132,7 @@ fn begins_side(text: &[u8]) -> bool {
         return false;
     }
     match small(text[0]) {
-        b'i' => word_length(text, b"inv") > 0,
+        b'i' => word_length(text, b"inv") > 0 || is_letter_of_inverse(text),
         b'n' => word_length(text, b"niss") > 0,
         b'p' => word_length(text, b"premov") > 0 || word_length(text, b"pre-mov") > 0,
         b's' => word_length(text, b"switch") > 0 || word_length(text, b"side") > 0,
@@ -140,6 +140,27 @@ fn begins_side(text: &[u8]) -> bool {
         b'b' => word_length(text, b"backward") > 0 || word_length(text, b"back to normal") > 0,
         _ => false,
     }
+}
+
+/// Whether a text begins with an I that stands by itself, as solvers name the inverse. Before a word in small letters it
+/// is who writes.
+fn is_letter_of_inverse(text: &[u8]) -> bool {
+    if text.is_empty() || text[0] != b'I' {
+        return false;
+    }
+    let after = &text[1..];
+    let is_alone = matches!(
+        first_kind(after),
+        Kind::Blank | Kind::Colon | Kind::Close | Kind::LineEnd
+    );
+    is_alone && first_kind(trimmed(after)) != Kind::Small
+}
+
+/// Whether a text begins with the word for a side, after what ends with "normal" and a sign: that is the side on which
+/// moves are read anyway.
+pub fn is_normal_side(text: &[u8], before: &[u8]) -> bool {
+    let normal = &before[before.len().saturating_sub(7)..];
+    word_length(text, b"side") > 0 && word_length(normal, b"normal") > 0
 }
 
 /// Whether a text begins with letters by which solvers say that moves are made several times.
