@@ -42,6 +42,8 @@ CHOSEN = "localStorage.setItem('nissy-further', 'none')"
 ASKED = "return window.asked.filter((each) => each === 'best').length"
 # how many EOs have at most one move more than the shortest of their axis, over both sides or on one: told by all turns on both sides
 ORIENTATIONS = {"R U F": 68, "F R U F": 112}
+# longer EOs lead to none that is better than the best, but to some that are better than the sixth
+NO_BETTER = SCRAMBLE
 # longer EOs lead to a better one
 WORSE = "F' B2 U2 L2 D' B R' D' F2 R' U2 L2 F' U' B L2 U' F U B2 D F' U' R2 U"
 
@@ -138,6 +140,22 @@ def shows_found(tally: Tally, browser: Browser, first: list[list[str]], top: int
     tally.equal("they are what a search of two moves more finds", below[0], below[1])
     tally.holds("of which there are some", len(below[0]) > 6)
     tally.holds("which is more than the shortest", found[: len(first)] != first)
+
+
+def says_more(tally: Tally, browser: Browser) -> None:
+    """Rows are called better only if the first of them has fewer moves than the best that is seen; better than the last one they are only more."""
+    begins(browser, NO_BETTER)
+    before = browser.script(ROWS)
+    browser.script(TURN, True)
+    tally.holds("longer ones are found", browser.until(GO_ON + IS_NEW))
+    words = browser.text("best-new")
+    browser.click("#best-new")
+    fresh = [int(row[0]) for row in browser.script(ROWS) if row not in before]
+    tally.holds(
+        f"some belong before the last, and none before the first: {fresh}",
+        fresh and int(before[0][0]) <= fresh[0] <= int(before[-1][0]),
+    )
+    tally.holds(f"so it is said: {words}", re.fullmatch(rf"[0-9]+ more rows?, from {fresh[0]} moves", words))
 
 
 def stays(tally: Tally, browser: Browser) -> None:

@@ -5,7 +5,7 @@ import { thrownError, present } from "../shared/certain.js";
 import { ShownCounts } from "./counts.js";
 import { announce, announceLater, counted, part, setBusy, tell } from "../shared/element.js";
 import { Filters, casesOfBest, filtersOfBest, offerCases, offerMoves } from "./filters.js";
-import { KnownSearches, betterThan, findAll, type Progress, type Question, type Row } from "./finder.js";
+import { KnownSearches, findAll, joiningRows, type Progress, type Question, type Row } from "./finder.js";
 import { FURTHEST, FurtherSearch, type Further } from "./further-search.js";
 import { GREATEST_SLACK } from "../state/limits.js";
 import { addRows, roveWithin, showRows, takeNamed } from "../shared/rows.js";
@@ -196,9 +196,7 @@ export class BestContinuations {
     this.#found.keep({ ...present(this.#question), slack: progress.slack }, progress);
     this.#newer = progress;
     this.#tellRows();
-    const [first] = this.#better();
-    const { total = 0 } = this.#seen[0] ?? {};
-    if (first && first.total < total) announceLater(part("best-new").textContent);
+    if (this.#joining()[0]?.total < this.#seen[0]?.total) announceLater(part("best-new").textContent);
   }
 
   #endedFurther(fault: Error | null) {
@@ -211,13 +209,13 @@ export class BestContinuations {
   }
 
   /** The rows that wait and belong among those that are seen. */
-  #better() {
-    return betterThan(this.#seen, this.#rows(this.#waiting()), this.#shown);
+  #joining() {
+    return joiningRows(this.#seen, this.#rows(this.#waiting()), this.#shown);
   }
 
   /** Shows the rows that wait in their places, and goes to the first of them. */
   #showNewer() {
-    const [first] = this.#better();
+    const [first] = this.#joining();
     part("best-slack").value = String(present(this.#waiting()).slack);
     this.#lengthened();
     (takeNamed(this.#body, first.key) ?? part("best-heading")).focus({ preventScroll: true });
@@ -318,21 +316,21 @@ export class BestContinuations {
     const left = this.#filters.count > 0 ? this.#rows(this.#progress).length : this.#progress.count;
     part("best-more").hidden = this.#shown >= left;
     part("best-more").textContent = `Show more of ${left.toLocaleString("en")}`;
-    const better = this.#better();
-    const kind = better[0]?.rank < (this.#seen.at(-1)?.rank ?? 0) ? "better" : "longer";
-    const words = better.length === 0 ? "" : `${counted(better.length, `${kind} row`)}, from ${better[0].total} moves`;
+    const rows = this.#joining();
+    const kind = rows[0]?.total < this.#seen[0]?.total ? "better" : "more";
+    const words = rows.length === 0 ? "" : `${counted(rows.length, `${kind} row`)}, from ${rows[0].total} moves`;
     tell(part("best-new"), words);
-    part("best-note").textContent = this.#note(this.#progress, left, better.length > 0);
+    part("best-note").textContent = this.#note(this.#progress, left, rows.length > 0);
   }
 
-  /** What is said of the rows that are shown, and of longer ones. @param left how many the filters leave */
-  #note({ count, tried }: Further, left: number, isBetter: boolean) {
+  /** What is said of rows that are shown, of which the filters leave some, and of longer ones, which may be offered. */
+  #note({ count, tried }: Further, left: number, isOffered: boolean) {
     const some = count < tried ? `the best ${count.toLocaleString("en")} of ` : "";
     const all = some + counted(tried, "row");
     const words = left === count ? all : `${left.toLocaleString("en")} of ${all}`;
     const waiting = this.#waiting();
     const longer = waiting ? `Up to ${waiting.slack} longer: ${counted(waiting.tried, "row")}` : "";
-    const said = this.#further.held() || (longer && `${longer}${isBetter ? "" : ", none better"}.`);
+    const said = this.#further.held() || (longer && `${longer}${isOffered ? "" : ", none better"}.`);
     return `${words[0].toUpperCase()}${words.slice(1)}. ${said}`.trim();
   }
 
