@@ -38,6 +38,8 @@ export class BestContinuations {
   #newer: Further | null = null;
   #longerReductions = "0";
   #isAsked = false;
+  /** Asks again for what was asked for and stopped. */
+  #again: (() => void) | null = null;
   #isOfReductions = false;
   #further: FurtherSearch;
   #found = new KnownSearches();
@@ -61,7 +63,7 @@ export class BestContinuations {
     });
     roveWithin(this.#body);
     offerMoves("best-slack", GREATEST_SLACK);
-    part("best-stop").addEventListener("click", () => this.#stopped());
+    part("best-stop").addEventListener("click", () => this.#stopOrGoOn());
     part("best-new").addEventListener("click", () => this.#showNewer());
     part("best-slack").addEventListener("change", () => this.#lengthened());
     part("best-options").addEventListener("toggle", () => this.#opened());
@@ -140,16 +142,19 @@ export class BestContinuations {
   }
 
   #stop() {
+    this.#again = null;
     this.#further.stop();
     for (const finder of this.finders) finder.stop();
   }
 
-  #stopped() {
-    if (!this.#isAsked && this.#further.held() !== "") return this.#further.release();
-    const isFurther = this.#further.isOn();
-    this.#stop();
+  #stopOrGoOn() {
     // a search that was asked for says so itself
-    if (isFurther) this.#endedFurther(new Stopped());
+    if (this.#isAsked) return this.#stop();
+    if (this.#again !== null) return this.#again();
+    if (this.#further.held()) return this.#further.release();
+    this.#further.hold();
+    this.#brokenOff(new Stopped());
+    this.#working(false);
   }
 
   /** Asks for what is chosen, which stays chosen: of orientations for this scramble. */
@@ -180,7 +185,6 @@ export class BestContinuations {
     // the cases of all are counted
     const isEnough = this.#progress.rows.length >= this.#shown && this.#filters.count === 0;
     if (isEnough && !part("best-options").open) return;
-    this.#stop();
     this.#find(present(this.#question), this.#progress, true);
   }
 
@@ -200,7 +204,10 @@ export class BestContinuations {
   }
 
   #endedFurther(fault: Error | null) {
-    if (fault) this.#brokenOff(fault);
+    if (fault) {
+      this.#stop();
+      this.#brokenOff(fault);
+    }
     this.#working(false);
   }
 
@@ -227,6 +234,7 @@ export class BestContinuations {
     const { slack: wanted } = isWhole && known ? known : question;
     const isStill = () => question === this.#question;
     const tell = (progress: Progress) => isStill() && this.#looked(progress);
+    this.#stop();
     this.#progress = known;
     if (!known) this.#showRows([]);
     else this.#draw();
@@ -244,6 +252,8 @@ export class BestContinuations {
       this.#goFurther();
     } catch (fault) {
       if (!isStill()) return;
+      this.#stop();
+      if (fault instanceof Stopped) this.#again = () => this.#find(question, this.#progress, isWhole);
       this.#working(false);
       this.#draw();
       this.#brokenOff(fault);
@@ -261,7 +271,6 @@ export class BestContinuations {
   }
 
   #brokenOff(fault: unknown) {
-    this.#stop();
     const note = this.#progress ? part("best-note").textContent : "";
     const text = fault instanceof Stopped ? `Stopped. ${note}`.trim() : thrownError(fault).message;
     part("best-note").textContent = text;
@@ -271,9 +280,9 @@ export class BestContinuations {
   #working(isAsked: boolean) {
     this.#isAsked = isAsked;
     const isOn = isAsked || this.#further.isOn();
-    const isHeld = !isAsked && this.#further.held() !== "";
+    const isHeld = !isAsked && (this.#again !== null || Boolean(this.#further.held()));
     const stop = part("best-stop");
-    stop.textContent = isHeld ? "Go on" : "Stop";
+    stop.textContent = isHeld || (!isAsked && this.#further.held() !== null) ? "Go on" : "Stop";
     // what can't be pressed can't keep the focus
     if (!isOn && !isHeld && document.activeElement === stop) part("best-heading").focus({ preventScroll: true });
     // it stays where it is, and so does all below it
