@@ -298,7 +298,8 @@ export class Page {
   }
 
   #goBack() {
-    this.#wayBack.go((key) => this.#best.reveal(key) ?? this.#list.reveal(key) ?? this.#table.cell(key));
+    this.#wayBack.go((key) =>
+      this.#best.reveal(key) ?? this.#list.reveal(key) ?? this.#table.cell(key) ?? this.#line.control(key));
   }
 
   async #showList() {
