@@ -5,7 +5,7 @@ import time
 
 from at_once import LISTEN
 from best import ROWS, SCRAMBLE, address_of
-from browser import PROCESSORS, Browser
+from browser import LAST_STEP_AWAY, PROCESSORS, Browser
 from searches import FLIPPED
 from tally import Tally
 
@@ -165,12 +165,12 @@ def says_more(tally: Tally, browser: Browser) -> None:
 
 
 def stays(tally: Tally, browser: Browser) -> None:
-    """What was shown stays: once a row is taken and the line is cleared, and once the page is loaded again; another scramble begins without."""
+    """What was shown stays: once a row is taken and removed, and once the page is loaded again; another scramble begins without."""
     shown = (browser.script(KEYS)[:5], False, "2")
     browser.act("#best-body .take")
     browser.wait_best()
     for what, act in (
-        ("after Clear", lambda: browser.act("#clear")),
+        ("after Remove", lambda: browser.act(LAST_STEP_AWAY)),
         ("after a reload", lambda: browser.reopen(browser.hash())),
     ):
         act()

@@ -138,6 +138,8 @@ export class LineSoFar {
       part("set-ups").replaceChildren();
     }
     for (const name of OF_MOVES) part(name).hidden = parts.length === 0;
+    // one step is removed beside it
+    part("clear").hidden = parts.length < 2;
   }
 
   /** Shows what each step reaches, how long it is, and the whole. @param whole without brackets */
