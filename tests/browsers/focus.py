@@ -145,6 +145,28 @@ def comes_back(tally: Tally, browser: Browser) -> None:
     tally.equal("Back from a list that is looked for", browser.focused(), "steps-heading")
 
 
+def comes_back_to_steps(tally: Tally, browser: Browser) -> None:
+    """By the browser's Back a step that was removed or changed has the focus where it stands again."""
+    press = "const it = all('#line-list button').at(arguments[0]); it.focus(); it.click()"
+    for steps, places in (("normal.D~inverse.L~normal.B", (0, 1, 2)), ("normal.D", (0,))):
+        browser.open(f"#scramble=R_U_F&steps={steps}")
+        count = browser.look("steps")
+        for place in places:
+            name = ("D", "on the inverse side L", "B")[place]
+            browser.walk(
+                tally,
+                f"step {place + 1} of {count}",
+                ("script", press, 3 * place + 1, {"steps": count - 1}),
+                ("script", "history.back()", {}),
+                ("comes", "steps", count, {"label": f"Remove {name}"}),
+                ("script", press, 3 * place, {}),
+                ("press", Keys.HOME, "F2 ", Keys.ENTER, {}),
+                ("until", "return !document.querySelector('#line-list input')", {"steps": count}),
+                ("script", "history.back()", {}),
+                ("comes", "label", f"Edit {name}", {"steps": count}),
+            )
+
+
 def one_stop(tally: Tally, browser: Browser) -> None:
     """The best continuations are one stop of the Tab key, and what has the focus among them keeps it when more are found."""
     browser.open(ADDRESS)

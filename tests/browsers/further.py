@@ -5,7 +5,7 @@ import time
 
 from at_once import LISTEN
 from best import ROWS, SCRAMBLE, address_of
-from browser import PROCESSORS, Browser
+from browser import LAST_STEP_AWAY, PROCESSORS, Browser
 from searches import FLIPPED
 from tally import Tally
 
@@ -35,6 +35,12 @@ HELD_IS = "part('best-stop').textContent === 'Go on' && !part('best-stop').disab
 HELD = f"return {HELD_IS}"
 # it goes on however slow the machine is
 GO_ON = f"if ({HELD_IS}) part('best-stop').click();"
+# what the button of the best says once nothing that was asked for is looked for, if it may be pressed
+WORDS = """window.words = new Set();
+    new MutationObserver(() => {
+        const [best, stop] = ["best", "best-stop"].map((name) => document.getElementById(name));
+        if (stop && !stop.disabled && best.ariaBusy === "false") words.add(stop.textContent);
+    }).observe(document, { attributes: true, childList: true, subtree: true });"""
 # those of so many moves more were looked at
 FOUND = GO_ON + f"return / Up to %d longer: [0-9,]+ rows/.test({NOTE})"
 # what an older page kept of a choice that is gone
@@ -42,6 +48,8 @@ CHOSEN = "localStorage.setItem('nissy-further', 'none')"
 ASKED = "return window.asked.filter((each) => each === 'best').length"
 # how many EOs have at most one move more than the shortest of their axis, over both sides or on one: told by all turns on both sides
 ORIENTATIONS = {"R U F": 68, "F R U F": 112}
+# longer EOs lead to none that is better than the best, but to some that are better than the sixth
+NO_BETTER = SCRAMBLE
 # longer EOs lead to a better one
 WORSE = "F' B2 U2 L2 D' B R' D' F2 R' U2 L2 F' U' B L2 U' F U B2 D F' U' R2 U"
 
@@ -140,13 +148,29 @@ def shows_found(tally: Tally, browser: Browser, first: list[list[str]], top: int
     tally.holds("which is more than the shortest", found[: len(first)] != first)
 
 
+def says_more(tally: Tally, browser: Browser) -> None:
+    """Rows are called better only if the first of them has fewer moves than the best that is seen; better than the last one they are only more."""
+    begins(browser, NO_BETTER)
+    before = browser.script(ROWS)
+    browser.script(TURN, True)
+    tally.holds("longer ones are found", browser.until(GO_ON + IS_NEW))
+    words = browser.text("best-new")
+    browser.click("#best-new")
+    fresh = [int(row[0]) for row in browser.script(ROWS) if row not in before]
+    tally.holds(
+        f"some belong before the last, and none before the first: {fresh}",
+        fresh and int(before[0][0]) <= fresh[0] <= int(before[-1][0]),
+    )
+    tally.holds(f"so it is said: {words}", re.fullmatch(rf"[0-9]+ more rows?, from {fresh[0]} moves", words))
+
+
 def stays(tally: Tally, browser: Browser) -> None:
-    """What was shown stays: once a row is taken and the line is cleared, and once the page is loaded again; another scramble begins without."""
+    """What was shown stays: once a row is taken and removed, and once the page is loaded again; another scramble begins without."""
     shown = (browser.script(KEYS)[:5], False, "2")
     browser.act("#best-body .take")
     browser.wait_best()
     for what, act in (
-        ("after Clear", lambda: browser.act("#clear")),
+        ("after Remove", lambda: browser.act(LAST_STEP_AWAY)),
         ("after a reload", lambda: browser.reopen(browser.hash())),
     ):
         act()
@@ -185,9 +209,18 @@ def pauses(tally: Tally, browser: Browser) -> None:
     tally.holds(f"a stop says how far it came: {note}", re.match(r"Stopped\. [0-9,]+ rows\. Up to 1 longer: ", note))
     count = browser.script(asked)
     time.sleep(LONGER_THAN_REST)
-    tally.equal("and ends it", (browser.script(asked), browser.script(ENDED)), (count, True))
-    browser.script(TURN, False)
-    tally.equal("what it said stays once the page is left", browser.text("best-note"), note)
+    tally.equal("and ends it, and offers to go on", (browser.script(asked), browser.script(HELD)), (count, True))
+    for is_seen in (False, True):
+        browser.script(TURN, is_seen)
+        time.sleep(LONGER_THAN_REST)
+        said = (browser.text("best-note"), browser.script(HELD), browser.script(asked))
+        tally.equal("what it said stays once the page is left, and seen again", said, (note, True, count))
+    browser.click("#best-stop")
+    tally.holds(
+        "asked, it goes on to those of two moves more",
+        browser.until(f"return / Up to 2 longer: [0-9,]+ rows/.test({NOTE})"),
+    )
+    tally.holds("to its end", browser.until(ENDED))
     browser.no_longer(script)
     browser.open(address_of(SCRAMBLE))
 
@@ -197,12 +230,17 @@ def is_measured(tally: Tally, browser: Browser) -> None:
     A phone, and whoever has few processors, waits until it is asked for longer ones, with how many there are, as the model counts them, and about how
     long they take; then it goes on.
     """
-    script = browser.before_page(LISTEN + SEEN)
+    script = browser.before_page(LISTEN + SEEN + WORDS)
     for of_what, prepared in (("few processors", browser.before_page(PROCESSORS % 2)), ("a phone", "")):
         browser.command("Emulation.setTouchEmulationEnabled", enabled=not prepared)
         for scramble, count in ORIENTATIONS.items():
             begins(browser, scramble)
             tally.holds(f"{of_what}: it waits", browser.until(HELD))
+            tally.equal(
+                f"{of_what}: what may be pressed once the best are there",
+                browser.script("return [...words]"),
+                ["Go on"],
+            )
             note, longer = browser.text("best-note"), rf"[0-9,]+ rows\. Up to 1 longer: {count} EOs, about [0-9]+ s\."
             tally.holds(f"{of_what}: it says how many there are: {note}", re.fullmatch(longer, note))
             tally.equal(f"{of_what}: and has asked nothing more", browser.script(ASKED), 3)

@@ -2,10 +2,11 @@
 import re
 from itertools import combinations
 
-from attempts import PASTE
+from attempts import NOTES, PASTE
 from best import DETAILS, ROWS
 from browser import Browser
 from program import program_answers
+from scrambles import PASTE_ALL
 from steps import ADDRESS, EXAMPLE, SCRAMBLE
 from tally import Tally
 from ways import line_of, ways
@@ -103,6 +104,8 @@ def copies_kept(tally: Tally, browser: Browser) -> None:
             *browser.script(
                 "return [...document.querySelectorAll('#kept-list li')].map((each) => each.querySelector('.moves').textContent)"
             ),
+            # by which the page takes them back
+            f"{ADDRESS}&kept={browser.hash().split('&kept=')[1]}",
         ]
     )
     browser.click("#copy-kept")
@@ -206,9 +209,10 @@ def keeps_what_is_gone_on_to(tally: Tally, browser: Browser) -> None:
 
 
 def reads_reductions(tally: Tally, browser: Browser, said: str, step: str) -> None:
-    """What is kept with its reduction comes back from the address and from the copy, by what is said of it."""
-    note = "const it = document.querySelector('#kept-list .note-field'); it.value = 'a'; it.dispatchEvent(new Event('change'))"
-    browser.script(note)
+    """What is kept with its reduction comes back from the address and from the copy as it was, without a doubt, whatever its note says."""
+    note = "const it = document.querySelector('#kept-list .note-field'); it.value = arguments[0]; it.dispatchEvent(new Event('change'))"
+    noted = "2. on inverse, // premoves: R U F x2"
+    browser.script(note, noted)
     browser.until(KEPT_SAID)
     before = browser.script(KEPT_WORDS)
     browser.open(browser.script("return location.hash"))
@@ -216,18 +220,22 @@ def reads_reductions(tally: Tally, browser: Browser, said: str, step: str) -> No
     tally.equal("they come back from the address", browser.script(KEPT_WORDS), before)
     browser.click("#copy-kept")
     browser.until("return document.getElementById('status').textContent.startsWith('Copied')")
-    tally.holds("the copy says it too, below the moves", f"\n{step}\n// {said}\n// a\n" in browser.texts("#status")[0])
-    text = browser.texts("#status")[0].removeprefix("Copied: ")
-    browser.open()
-    browser.fill("scramble", text)
-    browser.until("return document.querySelectorAll('#kept-list li').length > 0")
-    notes = browser.script("return [...document.querySelectorAll('#kept-list .note-field')].map((each) => each.value)")
-    tally.holds("and is read again as a note", f"{said} a" in notes)
-    line = step.split(" //")[0]
     tally.holds(
-        "of a line with these moves",
-        any(line in browser.texts("#kept-list li")[at] for at in range(len(notes)) if notes[at] == f"{said} a"),
+        "the copy says it too, below the moves", f"\n{step}\n// {said}\n// {noted}\n" in browser.texts("#status")[0]
     )
+    text = browser.texts("#status")[0].removeprefix("Copied: ")
+    notes = browser.script(NOTES)
+    tally.equal("one has a note", [each for each in notes if each], [noted])
+    for taken in (PASTE_ALL, PASTE):
+        for again in (False, True):
+            if not again:
+                browser.open()
+            browser.script(taken, text)
+            browser.settle("return document.querySelectorAll('#kept-list .total').length > 0")
+            browser.until(KEPT_SAID)
+            tally.equal("it is read as it was", (browser.script(KEPT_WORDS), browser.script(NOTES)), (before, notes))
+            tally.equal("without a doubt", (browser.text("scramble-doubt"), browser.text("alert")), ("", ""))
+            tally.equal("of one scramble", (browser.value("scramble"), browser.look("n #desk-chips a")), (SCRAMBLE, 1))
     browser.open(f"{ADDRESS}&kept=normal.R;;drud-eofb,normal.R;a;drud-eofb")
     browser.until(KEPT_SAID)
     tally.equal("a reduction that may not follow is not said", browser.script(KEPT_WORDS), [["R"], ["R"]])

@@ -35,7 +35,7 @@ def fmc_text(tally: Tally, browser: Browser) -> None:
 
 
 def edits(tally: Tally, browser: Browser) -> None:
-    """A step in the middle is edited, left as it was, refused, and taken away."""
+    """A step in the middle is edited, left as it was, refused, and taken away; all are by Clear, which one step doesn't have."""
     step = "#line-list li:nth-child(2)"
     # it is seen as it is written, and one types at its end
     at = "const it = document.activeElement; return [it.value, it.selectionStart]"
@@ -50,7 +50,8 @@ def edits(tally: Tally, browser: Browser) -> None:
         ("until", "return document.querySelector('#line-list .fault')?.textContent.includes('no move')", {}),
         ("script", change, {}),
         ("comes", "bracketed", "R L (U2) F", {"steps": 3, "label": "Edit L on the inverse side U2"}),
-        ("act", "#line-list li:nth-child(1) button:nth-of-type(2)", {"bracketed": "L (U2) F"}),
+        ("act", "#line-list li:nth-child(1) button:nth-of-type(2)", {"bracketed": "L (U2) F", "clear?": True}),
+        ("act", LAST_STEP_AWAY, {"steps": 1, "clear?": False}),
     )
 
 

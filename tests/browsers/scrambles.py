@@ -177,7 +177,20 @@ def removes(tally: Tally, browser: Browser) -> None:
             {CHIPS: ["1", "2"], SHOWN: ["2"], "scramble=": "B2 R D", "#said": [said]},
         ),
         ("script", "history.back()", {}),
-        ("comes", "bracketed", "B", {CHIPS: ["1", "2", "3 ★1"], SHOWN: ["3 ★1"], KEPT: ["B"], "n :popover-open": 0}),
+        # at the place that it had
+        ("comes", "bracketed", "B", {CHIPS: ["1", "2 ★1", "3"], SHOWN: ["2 ★1"], KEPT: ["B"], "n :popover-open": 0}),
+    )
+    browser.walk(
+        tally,
+        "two are removed, and come back in their places",
+        ("act", chip(1), {}),
+        ("act", "#desk-remove", {CHIPS: ["1 ★1", "2"], SHOWN: ["1 ★1"]}),
+        ("act", "#desk-remove", {CHIPS: ["1"], "scramble=": "B2 R D"}),
+        ("script", "history.back()", {}),
+        ("comes", CHIPS, ["1 ★1", "2"], {SHOWN: ["1 ★1"], "scramble=": "F' L2 U"}),
+        ("script", "history.back()", {}),
+        ("comes", CHIPS, ["1", "2 ★1", "3"], {SHOWN: ["1"], "scramble=": "R U F"}),
+        ("act", chip(2), {}),
     )
     browser.walk(
         tally,

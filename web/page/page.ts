@@ -101,7 +101,7 @@ export class Page {
       i: onLine(() => this.#line.turn("inverse")),
       u: onLine(() => this.#line.undoStep()),
       s: onLine(() => star(() => this.#starLine())),
-      "/": () => (this.#state.list && !part("results").inert ? this.#list.focusFilter() : this.#scramble.focus()),
+      "/": () => (this.#state.list && !part("results").inert ? part("filter").focus() : this.#scramble.focus()),
       Escape: () => this.#state.list && this.#changeList(null),
     });
   }
@@ -298,7 +298,8 @@ export class Page {
   }
 
   #goBack() {
-    this.#wayBack.go((key) => this.#best.reveal(key) ?? this.#list.reveal(key) ?? this.#table.cell(key));
+    this.#wayBack.go((key) =>
+      this.#best.reveal(key) ?? this.#list.reveal(key) ?? this.#table.cell(key) ?? this.#line.control(key));
   }
 
   async #showList() {

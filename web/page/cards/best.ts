@@ -5,7 +5,7 @@ import { thrownError, present } from "../shared/certain.js";
 import { ShownCounts } from "./counts.js";
 import { announce, announceLater, counted, part, setBusy, tell } from "../shared/element.js";
 import { Filters, casesOfBest, filtersOfBest, offerCases, offerMoves } from "./filters.js";
-import { KnownSearches, betterThan, findAll, type Progress, type Question, type Row } from "./finder.js";
+import { KnownSearches, findAll, joiningRows, type Progress, type Question, type Row } from "./finder.js";
 import { FURTHEST, FurtherSearch, type Further } from "./further-search.js";
 import { GREATEST_SLACK } from "../state/limits.js";
 import { addRows, roveWithin, showRows, takeNamed } from "../shared/rows.js";
@@ -38,6 +38,8 @@ export class BestContinuations {
   #newer: Further | null = null;
   #longerReductions = "0";
   #isAsked = false;
+  /** Asks again for what was asked for and stopped. */
+  #again: (() => void) | null = null;
   #isOfReductions = false;
   #further: FurtherSearch;
   #found = new KnownSearches();
@@ -61,7 +63,7 @@ export class BestContinuations {
     });
     roveWithin(this.#body);
     offerMoves("best-slack", GREATEST_SLACK);
-    part("best-stop").addEventListener("click", () => this.#stopped());
+    part("best-stop").addEventListener("click", () => this.#stopOrGoOn());
     part("best-new").addEventListener("click", () => this.#showNewer());
     part("best-slack").addEventListener("change", () => this.#lengthened());
     part("best-options").addEventListener("toggle", () => this.#opened());
@@ -140,16 +142,19 @@ export class BestContinuations {
   }
 
   #stop() {
+    this.#again = null;
     this.#further.stop();
     for (const finder of this.finders) finder.stop();
   }
 
-  #stopped() {
-    if (!this.#isAsked && this.#further.held() !== "") return this.#further.release();
-    const isFurther = this.#further.isOn();
-    this.#stop();
+  #stopOrGoOn() {
     // a search that was asked for says so itself
-    if (isFurther) this.#endedFurther(new Stopped());
+    if (this.#isAsked) return this.#stop();
+    if (this.#again !== null) return this.#again();
+    if (this.#further.held()) return this.#further.release();
+    this.#further.hold();
+    this.#brokenOff(new Stopped());
+    this.#working(false);
   }
 
   /** Asks for what is chosen, which stays chosen: of orientations for this scramble. */
@@ -180,7 +185,6 @@ export class BestContinuations {
     // the cases of all are counted
     const isEnough = this.#progress.rows.length >= this.#shown && this.#filters.count === 0;
     if (isEnough && !part("best-options").open) return;
-    this.#stop();
     this.#find(present(this.#question), this.#progress, true);
   }
 
@@ -196,13 +200,14 @@ export class BestContinuations {
     this.#found.keep({ ...present(this.#question), slack: progress.slack }, progress);
     this.#newer = progress;
     this.#tellRows();
-    const [first] = this.#better();
-    const { total = 0 } = this.#seen[0] ?? {};
-    if (first && first.total < total) announceLater(part("best-new").textContent);
+    if (this.#joining()[0]?.total < this.#seen[0]?.total) announceLater(part("best-new").textContent);
   }
 
   #endedFurther(fault: Error | null) {
-    if (fault) this.#brokenOff(fault);
+    if (fault) {
+      this.#stop();
+      this.#brokenOff(fault);
+    }
     this.#working(false);
   }
 
@@ -211,13 +216,13 @@ export class BestContinuations {
   }
 
   /** The rows that wait and belong among those that are seen. */
-  #better() {
-    return betterThan(this.#seen, this.#rows(this.#waiting()), this.#shown);
+  #joining() {
+    return joiningRows(this.#seen, this.#rows(this.#waiting()), this.#shown);
   }
 
   /** Shows the rows that wait in their places, and goes to the first of them. */
   #showNewer() {
-    const [first] = this.#better();
+    const [first] = this.#joining();
     part("best-slack").value = String(present(this.#waiting()).slack);
     this.#lengthened();
     (takeNamed(this.#body, first.key) ?? part("best-heading")).focus({ preventScroll: true });
@@ -229,6 +234,7 @@ export class BestContinuations {
     const { slack: wanted } = isWhole && known ? known : question;
     const isStill = () => question === this.#question;
     const tell = (progress: Progress) => isStill() && this.#looked(progress);
+    this.#stop();
     this.#progress = known;
     if (!known) this.#showRows([]);
     else this.#draw();
@@ -246,6 +252,8 @@ export class BestContinuations {
       this.#goFurther();
     } catch (fault) {
       if (!isStill()) return;
+      this.#stop();
+      if (fault instanceof Stopped) this.#again = () => this.#find(question, this.#progress, isWhole);
       this.#working(false);
       this.#draw();
       this.#brokenOff(fault);
@@ -263,7 +271,6 @@ export class BestContinuations {
   }
 
   #brokenOff(fault: unknown) {
-    this.#stop();
     const note = this.#progress ? part("best-note").textContent : "";
     const text = fault instanceof Stopped ? `Stopped. ${note}`.trim() : thrownError(fault).message;
     part("best-note").textContent = text;
@@ -273,9 +280,9 @@ export class BestContinuations {
   #working(isAsked: boolean) {
     this.#isAsked = isAsked;
     const isOn = isAsked || this.#further.isOn();
-    const isHeld = !isAsked && this.#further.held() !== "";
+    const isHeld = !isAsked && (this.#again !== null || Boolean(this.#further.held()));
     const stop = part("best-stop");
-    stop.textContent = isHeld ? "Go on" : "Stop";
+    stop.textContent = isHeld || (!isAsked && this.#further.held() !== null) ? "Go on" : "Stop";
     // what can't be pressed can't keep the focus
     if (!isOn && !isHeld && document.activeElement === stop) part("best-heading").focus({ preventScroll: true });
     // it stays where it is, and so does all below it
@@ -318,21 +325,21 @@ export class BestContinuations {
     const left = this.#filters.count > 0 ? this.#rows(this.#progress).length : this.#progress.count;
     part("best-more").hidden = this.#shown >= left;
     part("best-more").textContent = `Show more of ${left.toLocaleString("en")}`;
-    const better = this.#better();
-    const kind = better[0]?.rank < (this.#seen.at(-1)?.rank ?? 0) ? "better" : "longer";
-    const words = better.length === 0 ? "" : `${counted(better.length, `${kind} row`)}, from ${better[0].total} moves`;
+    const rows = this.#joining();
+    const kind = rows[0]?.total < this.#seen[0]?.total ? "better" : "more";
+    const words = rows.length === 0 ? "" : `${counted(rows.length, `${kind} row`)}, from ${rows[0].total} moves`;
     tell(part("best-new"), words);
-    part("best-note").textContent = this.#note(this.#progress, left, better.length > 0);
+    part("best-note").textContent = this.#note(this.#progress, left, rows.length > 0);
   }
 
-  /** What is said of the rows that are shown, and of longer ones. @param left how many the filters leave */
-  #note({ count, tried }: Further, left: number, isBetter: boolean) {
+  /** What is said of rows that are shown, of which the filters leave some, and of longer ones, which may be offered. */
+  #note({ count, tried }: Further, left: number, isOffered: boolean) {
     const some = count < tried ? `the best ${count.toLocaleString("en")} of ` : "";
     const all = some + counted(tried, "row");
     const words = left === count ? all : `${left.toLocaleString("en")} of ${all}`;
     const waiting = this.#waiting();
     const longer = waiting ? `Up to ${waiting.slack} longer: ${counted(waiting.tried, "row")}` : "";
-    const said = this.#further.held() || (longer && `${longer}${isBetter ? "" : ", none better"}.`);
+    const said = this.#further.held() || (longer && `${longer}${isOffered ? "" : ", none better"}.`);
     return `${words[0].toUpperCase()}${words.slice(1)}. ${said}`.trim();
   }
 

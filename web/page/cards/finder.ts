@@ -28,7 +28,7 @@ export type FoundOnAxis = { rows: Row[]; tried: number };
 export type Found = FoundOnAxis & { count: number; isWhole: boolean };
 
 /** The rows that aren't seen and are better than the last one that is, or have room below it. */
-export function betterThan(seen: Row[], rows: Row[], room: number) {
+export function joiningRows(seen: Row[], rows: Row[], room: number) {
   const known = new Set(seen.map(({ key }) => key));
   const belongs = ({ rank }: Row, at: number) => (seen.length < room ? at < room : rank < lastOf(seen).rank);
   return rows.filter((row, at) => !known.has(row.key) && belongs(row, at));

@@ -3,7 +3,7 @@
 // as a measure allows them, and after that once they are asked for.
 import { thrownError } from "../shared/certain.js";
 import { findOnAxis, together, type Found, type FoundOnAxis, type Question } from "./finder.js";
-import { Measure, mostTogether } from "./measure.js";
+import { Measure, isSmall, mostTogether } from "./measure.js";
 import { ORIENTATIONS } from "../shared/offered-steps.js";
 import { waitsForAnswers } from "../shared/view.js";
 import type { Calls } from "../shared/questions.js";
@@ -48,11 +48,18 @@ export class FurtherSearch {
     return this.#search !== null && !this.#search.isHeld && !document.hidden;
   }
 
-  /** What it waits with until it is asked for, in words, or "". */
+  /** What it waits with until it is asked for, in words, or "" until that is counted; null if it doesn't wait so. */
   held() {
-    if (!this.#search?.isHeld) return "";
+    if (!this.#search?.isHeld) return null;
     const { question: { slack }, sizes } = this.#search;
-    return `Up to ${slack} longer: ${this.measure.words(sizes)}.`;
+    return sizes.length === 0 ? "" : `Up to ${slack} longer: ${this.measure.words(sizes)}.`;
+  }
+
+  /** Has it wait until it is asked for again; what it found stays. */
+  hold() {
+    if (this.#search === null) return;
+    this.#search.isHeld = true;
+    for (const at of this.#search.running) this.finders[at].stop();
   }
 
   release() {
@@ -68,7 +75,7 @@ export class FurtherSearch {
     this.#search = {
       question: { ...question, slack: question.slack + 1, isWhole: true },
       sizes: [],
-      isHeld: false,
+      isHeld: isSmall(),
       found: new Map(),
       left: ORIENTATIONS.map((_, at) => at),
       running: new Set(),
@@ -84,14 +91,14 @@ export class FurtherSearch {
   /** Gives up what is looked at until the page is seen again. */
   #pause() {
     clearTimeout(this.#timer);
-    if (this.#search === null) return;
+    if (this.#search === null || this.held()) return;
     for (const at of this.#search.running) this.finders[at].stop();
     this.acts.turned();
   }
 
   #wait() {
     clearTimeout(this.#timer);
-    if (this.#search === null) return;
+    if (this.#search === null || this.held()) return;
     this.#timer = setTimeout(() => this.#goOn(), IDLE_FOR);
     this.acts.turned();
   }
@@ -101,8 +108,9 @@ export class FurtherSearch {
     if (document.hidden) return;
     if (waitsForAnswers()) return this.#wait();
     const search = this.#search;
-    if (search === null || search.isHeld) return;
+    if (search === null) return;
     if (search.sizes.length === 0) return void this.#weigh(search);
+    if (search.isHeld) return;
     const { left, running } = search;
     for (const at of left.splice(0, Math.max(0, mostTogether() - running.size))) this.#look(search, at);
   }
@@ -121,7 +129,7 @@ export class FurtherSearch {
       if (isStill() && !document.hidden) this.#end(thrownError(fault));
       return;
     }
-    search.isHeld = !this.measure.allows(search.sizes);
+    search.isHeld ||= !this.measure.allows(search.sizes);
     if (search.isHeld) this.acts.turned();
     else this.#goOn();
   }
@@ -143,8 +151,8 @@ export class FurtherSearch {
   }
 
   #broken(search: Search, at: number, fault: Error) {
-    if (!document.hidden) return this.#end(fault);
-    // it was given up until the page is seen again
+    if (!document.hidden && !search.isHeld) return this.#end(fault);
+    // it was given up until the page is seen again, or it is asked for
     search.left.unshift(at);
   }
 

@@ -1,7 +1,7 @@
 // The card of the candidates that are kept: each with its moves, what it reaches, its case and a note.
 import { Stopped } from "../../module/shared/faults.js";
 import { nameOf, withStar } from "../state/kept-lines.js";
-import { fitsAddress, type Candidate, type List, type State } from "../state/address.js";
+import { addressOf, emptyState, fitsAddress, type Candidate, type List, type State } from "../state/address.js";
 import { lastOf, present } from "../shared/certain.js";
 import { copy, fmcOfAll, setUps } from "../shared/copying.js";
 import {
@@ -170,10 +170,12 @@ export class KeptCandidates {
       .sort((one, other) => rankOfKept(one.walk) - rankOfKept(other.walk));
   }
 
+  /** All of them to read, and below an address, by which the page takes them back as they are. */
   #text() {
     if (this.#walks.length !== this.#candidates.length) return "";
-    return fmcOfAll(this.#scramble, this.#sorted().flatMap(({ candidate: { note }, walk }) =>
+    const lines = fmcOfAll(this.#scramble, this.#sorted().flatMap(({ candidate: { note }, walk }) =>
       (walk === null ? [] : [{ walk, notes: [...wordsOfNext(walk).slice(0, 1), note].filter(Boolean) }])));
+    return `${lines}\n\n${addressOf({ ...emptyState(), scramble: this.#scramble, kept: this.#candidates })}`;
   }
 
   #draw() {

@@ -138,6 +138,8 @@ export class LineSoFar {
       part("set-ups").replaceChildren();
     }
     for (const name of OF_MOVES) part(name).hidden = parts.length === 0;
+    // one step is removed beside it
+    part("clear").hidden = parts.length < 2;
   }
 
   /** Shows what each step reaches, how long it is, and the whole. @param whole without brackets */
@@ -162,6 +164,10 @@ export class LineSoFar {
     tell(part("finished"), endOf(walk));
   }
 
+  control(key: string) {
+    return [...part("line-list").querySelectorAll("[data-key]")].find(({ dataset }) => dataset.key === key) ?? null;
+  }
+
   /** Takes what makes one doubt a step that was read of a text. */
   doubt(index: number, words: string) {
     this.#doubt = { index, words };
@@ -184,7 +190,7 @@ export class LineSoFar {
   #item(each: Part, index: number) {
     const text = bracketed([each]);
     const act = (word: string, click: () => void) =>
-      button(word, { class: "quiet", "aria-label": `${word} ${spoken(text)}`, click });
+      button(word, { class: "quiet", "data-key": `${word} ${index}`, "aria-label": `${word} ${spoken(text)}`, click });
     return element("li", {},
       element("span", { class: "step" }, ...Object.values(this.#words[index])),
       element("span", { class: "acts" },
@@ -198,7 +204,7 @@ export class LineSoFar {
     const shown = [...item.childNodes];
     const field = element("input", {
       class: "moves wide", value: text, spellcheck: "false", autocapitalize: "off", autocomplete: "off",
-      maxlength: 4096, "aria-label": `Step ${index + 1}`,
+      maxlength: 4096, "aria-label": `Step ${index + 1}`, "data-key": `Edit ${index}`,
     });
     takeLines(field, this.reader);
     const fault = element("div", { class: "fault", hidden: true });

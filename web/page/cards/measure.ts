@@ -19,7 +19,8 @@ const processors = () => navigator.hardwareConcurrency || 2;
 /** How many of them what nobody asked for may take. */
 export const mostTogether = () => Math.max(1, processors() >> 1);
 
-const isSmall = () => matchMedia("(pointer: coarse)").matches || processors() <= 2;
+/** Whether the machine is one on which nothing is looked for that nobody asked for. */
+export const isSmall = () => matchMedia("(pointer: coarse)").matches || processors() <= 2;
 
 /** Seconds in words that promise no more than is known. */
 function timeInWords(seconds: number) {

@@ -58,11 +58,7 @@ export class ScrambleField {
     this.#field.addEventListener("paste", (event) => {
       const { value, selectionStart, selectionEnd } = this.#field;
       const pasted = event.clipboardData?.getData("text").replace(/\r\n?/g, "\n") ?? "";
-      const sheets = sheetsIn(pasted);
-      if (sheets.length > 0) {
-        event.preventDefault();
-        return this.acts.take(sheets);
-      }
+      if (this.#takeSheets(pasted)) return event.preventDefault();
       this.#isReplaced = selectionStart === 0 && selectionEnd === value.length;
       // the browser takes as much of it as the field has room for, without a word
       this.#isCut = value.length - (selectionEnd - selectionStart) + pasted.length > LONGEST_SCRAMBLE;
@@ -157,8 +153,18 @@ export class ScrambleField {
     this.#timer = setTimeout(() => this.#read(false, false), PAUSE);
   }
 
+  /** Takes what another page copied, if a text has that. @returns whether it has */
+  #takeSheets(text: string) {
+    const sheets = sheetsIn(text);
+    if (sheets.length === 0) return false;
+    this.#field.value = this.#shown;
+    this.acts.take(sheets);
+    return true;
+  }
+
   #read(isReplaced: boolean, isPasted: boolean) {
     const text = this.#field.value;
+    if (this.#takeSheets(text)) return;
     // an empty line more is nothing new
     if (!isPasted && this.#isRead && text.trim() === this.#shown.trim()) return;
     const attempts = this.reader.attempts(text);

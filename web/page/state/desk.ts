@@ -54,6 +54,8 @@ export class Desk {
   #sheets = sheetsOf(this.#text);
   /** the sheet that is shown, or 0 */
   #at = 0;
+  /** what was taken away, by its number, and where it stood: the browser's Back may lead to it */
+  #removed = new Map<number | null, { sheet: Sheet; at: number }>();
   /** whether the browser keeps what is done */
   isKept = true;
 
@@ -84,7 +86,7 @@ export class Desk {
   /** Turns to the sheet of a scramble, if it has one. @param id of the sheet that the history has, null if it is new */
   turnTo(scramble: string, id: number | null = null): Sheet | null {
     this.readAgain();
-    const sheet = this.#sheets.find((each) => each.id === id) ?? sheetOf(this.#sheets, scramble);
+    const sheet = this.#sheets.find((each) => each.id === id) ?? sheetOf(this.#sheets, scramble) ?? this.#putBack(id);
     const before = this.shown;
     this.#at = sheet?.id ?? 0;
     const isBare = before?.isDrawn && before !== sheet && !hasLines(stateOfSheet(before));
@@ -130,9 +132,18 @@ export class Desk {
   /** Takes the sheet that is shown away. @returns its place */
   remove() {
     const at = this.#sheets.findIndex(({ id }) => id === this.#at);
+    if (at >= 0) this.#removed.set(this.#at, { sheet: this.#sheets[at], at });
     this.#change((sheets) => sheets.filter(({ id }) => id !== this.#at));
     this.#at = 0;
     return at;
+  }
+
+  /** Lays a sheet that was taken away back where it stood, if there is room. @returns it, or null */
+  #putBack(id: number | null) {
+    const removed = this.#removed.get(id);
+    if (removed === undefined || this.#sheets.length >= MOST_SHEETS) return null;
+    this.#change((sheets) => sheets.toSpliced(removed.at, 0, removed.sheet));
+    return removed.sheet;
   }
 }
 
