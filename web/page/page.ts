@@ -191,7 +191,7 @@ export class Page {
       tell(part("alert"), whyUnread(unread) || joined.why);
       // once, where it can be mended
       if (doubt === null || doubted < 0) this.#scramble.tellDoubt(doubt);
-      else this.#line.doubt(doubted, wordsOfDoubt(doubt, fmc.text));
+      else this.#line.doubt(doubted, wordsOfDoubt(doubt, fmc.text, parts[doubted].normal));
     } catch (fault) {
       if (turn === this.#turn && !(fault instanceof Stopped)) tell(part("alert"), unanswered(fault));
     }
