@@ -252,6 +252,8 @@ export class Page {
     const cube = { scramble, written, parts, reached, facts: views.normal.facts, made: lastOf(walk.totals) };
     this.#cube = cube;
     this.#nets.show(views, walk, () => this.#byHand.ask("framesOf", { scramble, parts }));
+    // a solved cube isn't left, dimmed, beside the first scramble that can't be read
+    part("cube").hidden = isBare(this.#state);
     this.#line.describe(walk, whole, written);
     setUsable(true);
     part("choices").hidden = isBare(this.#state);
