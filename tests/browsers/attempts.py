@@ -24,6 +24,17 @@ ONE_SIDE = "“NISS” names a side, and its moves may belong on the other one"
 OF_A_STEP = (
     ("R U F\n\nR U // premoves\nF' // EO", "R U F'", PREMOVES, 0),
     ("R U F\n\nF' // EO\nPre-Moves: R U", "F' R U", PREMOVES, 1),
+    # the premoves are those of the text, inverted: a half turn stays, and of others the last comes first, the other way
+    (
+        "R U F\n\nPremoves: L D2 F'\nF' // EO",
+        "L D2 F' F'",
+        PREMOVES.replace("R U are (U' R')", "L D2 F' are (F D2 L')"),
+        0,
+    ),
+    # the moves of a step that has premoves aren't these
+    ("R U F\n\nD // EO with premoves R", "D", PREMOVES.split(": ")[0] + ": write them inverted, in brackets", 0),
+    # a wide turn of F is one of B, seen from another side: so the faces of the others are named as they were before
+    ("R U F\n\nf' u' r'", "B' L' B'", "“f'” is read as a wide turn: face turns have capital letters", 0),
     ("R U F\n\nR U // NISS\nF' // EO", "R U F'", ONE_SIDE, 0),
     (f"{LONGER}\nR' U F' R L // EO, then NISS\nD' F B' // DR", "R' U F' R L D' F B'", ONE_SIDE, 0),
     (
@@ -91,7 +102,7 @@ def doubts(tally: Tally, browser: Browser) -> None:
             ("fill", "scramble", "R U", {"scramble-doubt?": False, OF_STEPS: []}),
             ("fill", "scramble", "r q", {"scramble-doubt?": False}),
         )
-    small = ["In doubt: “r” is read as a wide turn."]
+    small = ["In doubt: “r” is read as a wide turn: face turns have capital letters."]
     browser.open()
     browser.walk(
         tally,

@@ -238,6 +238,17 @@ def plays(tally: Tally, browser: Browser) -> None:
         ("wait", {ENDS: ["play-on"]}),
         ("go", "#scramble=R_U", {"letters normal": answer("print", "R U")}),
     )
+    # U U is one move
+    browser.walk(
+        tally,
+        "neighbours are one move",
+        ("go", "#scramble=R_U&steps=normal.F_U~normal.U_D", {}),
+        ("click", "#play-back", {}),
+        ("comes", "played", "2 of 3: U", {"letters normal": Position("R U", "F U2").letters("normal")}),
+        ("click", "#play-back", {"played": "2 of 3: U", "letters normal": Position("R U", "F U").letters("normal")}),
+        ("click", "#play-back", {"played": "1 of 3: F"}),
+        ("click", "#play-back", {"played": "0 of 3"}),
+    )
 
 
 def solved(tally: Tally, browser: Browser) -> None:

@@ -144,6 +144,9 @@ def begins(tally: Tally, browser: Browser) -> None:
         "with a fault, and without a scramble",
         ("open", "#scramble=R_q", {seen: [False, False, False]}),
         ("open", {seen: [False, True, False], raw: 0}),
+        # nor is the solved cube of an empty page there, dimmed
+        ("fill", "scramble", "R q", {seen: [False, False, False]}),
+        ("fill", "scramble", "R", {"cube?": True}),
     )
     # a tint for the mouse is only where there is one that hovers: on a phone it would stick
     rules = browser.script(

@@ -209,6 +209,29 @@ def has_rows(tally: Tally, browser: Browser) -> None:
         tally.equal(f"{width}: rows whose cells aren't level", browser.script(UNEVEN), [])
 
 
+def has_headings(tally: Tally, browser: Browser) -> None:
+    """Beside a mouse numbers end below the end of their heading; those with words after them begin below its beginning, each of its lines there."""
+    edges = """const lines = (each) => {
+            const range = document.createRange();
+            range.selectNodeContents(each);
+            return [...range.getClientRects()];
+        };
+        const [heads, ...rows] = all('#best-table tr').map((row) => [...row.children].map(lines));
+        const left = (rects) => Math.min(...rects.map((each) => each.left)), right = (rects) => Math.max(...rects.map((each) => each.right));
+        return [rows.map((row) => right(row[0]) - right(heads[0])),
+            [4, 5].flatMap((at) => heads[at].map((line) => line.left - Math.min(...rows.map((row) => left(row[at])))))]"""
+    browser.go(SCRAMBLE)
+    browser.wait_best()
+    for width in (601, 960, 1180, 1440):
+        browser.resize(width, 900)
+        ends, begins = browser.script(edges)
+        tally.holds(f"{width}: ends of numbers: {ends}", len(ends) > 4 and all(abs(each) < 1 for each in ends))
+        tally.holds(
+            f"{width}: beginnings of headings: {begins}",
+            len(begins) == 4 and all(-8 < each < 4 for each in begins) and begins[0] == begins[1],
+        )
+
+
 def places(tally: Tally, browser: Browser) -> None:
     """After a step what follows is in view, and the line; after the last one the line and how it ends are."""
     table = "return part('steps-table').getBoundingClientRect().top"

@@ -151,6 +151,39 @@ def stays(tally: Tally, browser: Browser) -> None:
         tally.holds(f"after {moves} the line stays where it is: {moved}", abs(moved) < 3)
 
 
+def shows_faults(tally: Tally, browser: Browser) -> None:
+    """What is wrong with moves that are typed is in view with them above a keyboard, for a step of the line too."""
+    wrong = """const field = document.querySelector(arguments[0]);
+        field.focus();
+        field.scrollIntoView({ block: 'end', behavior: 'instant' });
+        field.value = 'R U q';
+        field.form.requestSubmit()"""
+    seen = """const below = part('bar').getBoundingClientRect().bottom;
+        const [fault, field] = [document.querySelector(`${arguments[0]} .fault`), document.querySelector(`${arguments[0]} input`)];
+        return fault.textContent !== '' && [fault, field].every((each) => {
+            const { top, bottom } = each.getBoundingClientRect();
+            return top >= below && bottom <= innerHeight;
+        })"""
+    for width in (390, 360):
+        browser.resize(width, 380, True)
+        for place in ("#own-form", "#line-list"):
+            browser.walk(
+                tally,
+                f"{width}: {place}",
+                ("open", f"{ADDRESS}&steps=normal.R~normal.U", {}),
+                ("script", "document.querySelector('#line-list button').click()", {}),
+                ("script", wrong, f"{place} input", {}),
+                (
+                    "until",
+                    "return document.querySelector(`${arguments[0]} .fault`)?.textContent.includes('no move')",
+                    place,
+                    {},
+                ),
+            )
+            tally.holds(f"{width}: {place}: fault and field are in view", browser.script(seen, place))
+        browser.resize(width, 740, True)
+
+
 def is_whole(tally: Tally, browser: Browser) -> None:
     """A scramble of 25 moves is seen whole; so are the words of the buttons beside a long line, and a number with its word in the table."""
     scramble = "R' U' F D2 L2 F' R2 U2 R2 B' D2 L' B2 D' B2 L' R' B' D2 B2 F' L' R' U' F"
@@ -200,11 +233,21 @@ def is_even(tally: Tally, browser: Browser) -> None:
         return part('best-more').offsetWidth - words.getBoundingClientRect().width < 26"""
     weights = "return [...new Set(all(arguments[0]).map((each) => getComputedStyle(each).fontWeight))]"
     undo = "return seen('button').filter((each) => each.textContent === 'Undo step').length"
+    # how far below the box of a row its second line begins
+    gaps = """return all('#best-body tr').flatMap((row) => [...row.querySelectorAll('.axis, .number')].map((each) => {
+        const words = document.createRange();
+        words.selectNodeContents(each);
+        return words.getBoundingClientRect().top - row.querySelector('.take').getBoundingClientRect().bottom;
+    }))"""
     for width in (390, 360, 320):
         browser.resize(width, 844, True)
         browser.open(ADDRESS)
         browser.wait_best()
         tally.equal(f"{width}: what has another baseline", browser.script(tops), [])
+        touching = browser.script(gaps)
+        tally.holds(
+            f"{width}: second lines, from the box above them: {touching}", len(touching) == 20 and min(touching) >= 1
+        )
         tally.holds(f"{width}: a button as wide as its words", browser.script(room))
     browser.resize(390, 844, True)
     browser.walk(
@@ -220,17 +263,27 @@ def is_even(tally: Tally, browser: Browser) -> None:
         [browser.script(weights, f"#line-list {each}") for each in (".moves", ".trigger")],
         [["400"], ["700"]],
     )
+
+
+def has_large_nets(tally: Tally, browser: Browser) -> None:
+    """Large nets are seen and read, both of them, with what plays on them, and above the answer of Why?, of one axis or of each."""
     whole = """const [nets, player] = [part('net-inverse'), part('play-on')].map((each) => each.getBoundingClientRect());
-        return nets.bottom <= player.top && player.bottom <= innerHeight"""
+        const least = Math.min(...all('#cube .sticker rect').map((each) => each.getBoundingClientRect().width));
+        return nets.bottom <= player.top && player.bottom <= innerHeight && least >= 9"""
     answer = """const { top, bottom } = part('why').getBoundingClientRect();
         return part('why').innerText !== '' && top >= part('play-on').getBoundingClientRect().bottom && bottom <= innerHeight"""
-    browser.walk(
-        tally,
-        "large nets are seen with what plays on them",
-        ("act", "#cube-large", {whole: True}),
-        ("choose", "piece", "1", {answer: True}),
-        ("press", Keys.ESCAPE, {}),
-    )
+    for width, height in ((390, 844), (360, 740), (360, 640), (1280, 800)):
+        browser.resize(width, height, width < 1000)
+        browser.walk(
+            tally,
+            f"{width} by {height}",
+            ("open", f"{address_of(LONGER)}&steps=inverse.B_D_R_F2_B_D~normal.R_B-_D2_R", {}),
+            ("act", "#cube-large", {whole: True}),
+            ("choose", "marks", "EO F/B", {}),
+            ("choose", "piece", "1", {whole: True, answer: True}),
+            ("choose", "marks", "", {whole: True, answer: True}),
+            ("press", Keys.ESCAPE, {}),
+        )
 
 
 def lies(tally: Tally, browser: Browser) -> None:

@@ -157,7 +157,8 @@ def stands(tally: Tally, browser: Browser, width: int) -> None:
     tally.equal(f"{width}: the head of a list", looking, browser.script(PLACES_AFTER, "slack", "3", of_list))
     of_cube = ["figcaption", "#piece", "#play-on"]
     places = [browser.script(PLACES_AFTER, "marks", mark, of_cube) for mark in ("none", "EO F/B", "DR U/D")]
-    backward = [("play-back", "played", f"{at} of 10") for at in reversed(range(10))]
+    # after the last move of the orientation, the sixth, one looks at what is left of the reduction, and at what is done
+    backward = [("play-back", "played", f"{at} of 10") for at in (9, 8, 7, 6, 6, 5, 4, 3, 2, 1, 0)]
     for press, part, words in (*backward, ("play", "play", "Pause"), ("play", "play", "Play")):
         browser.script("part(arguments[0]).click()", press)
         browser.until("return part(arguments[0]).textContent.startsWith(arguments[1])", part, words)

@@ -145,8 +145,8 @@ def enlarges(tally: Tally, browser: Browser) -> None:
 
 def shows_a_reduction(tally: Tally, browser: Browser) -> None:
     """
-    Large nets show a line to a class: its moves with their cases, and at each move what the step that it belongs to has left; a cube that is
-    reduced keeps its colours.
+    Large nets show a line to a class: its moves with their cases, and at each move what the step that it belongs to has left; a step that is done is
+    said to be, before what the next one has left, and a cube keeps its colours then.
     """
     first, second = "B D R F2 B D", "R B' D2 R"
     browser.go(SCRAMBLE + f"&steps=inverse.{first.replace(' ', '_')}~normal.R_B-_D2_R")
@@ -177,7 +177,20 @@ def shows_a_reduction(tally: Tally, browser: Browser) -> None:
         said = f"{at + 6} of 10: {side}{moves[at + 6]} · DR F/B: {cases[at]}".replace("'", " prime")
         tally.equal("and what is said of it", browser.look("said"), said)
     browser.click("#play-back")
+    browser.until("return part('marked-normal').textContent.includes('EO')")
+    # the same cube is looked at once more, for what was reached by it: no edge is bad
+    tally.equal(
+        "the EO is done",
+        (Position(EXAMPLE, "", first).bad_edges("ud"), browser.script(marked)),
+        (0, ["EO U/D: done", False]),
+    )
+    tally.equal(
+        "the move that did it", (browser.look(MADE), browser.text("played")), ([moves[6]], f"6 of 10: ({moves[6]})")
+    )
+    tally.equal("and what is said", browser.look("said"), f"6 of 10: on the inverse side {moves[6]} · EO U/D: done")
+    browser.click("#play-back")
     browser.until("return part('played').textContent.startsWith('5 of 10')")
-    tally.holds("and before the last of the EO", browser.script(marked)[0].startswith("EO U/D: "))
+    bad = Position(EXAMPLE, "", " ".join(moves[1:6])).bad_edges("ud")
+    tally.equal("before its last move", browser.script(marked), [f"EO U/D: {bad} bad", True])
     browser.press(Keys.ESCAPE)
     tally.equal("beside the page the line stands by itself", browser.text("shown-line"), "")

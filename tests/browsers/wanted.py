@@ -133,6 +133,10 @@ class Position:
         pieces = bad_pieces.seen(self.lines["normal"].encode()).axes[axis]
         return f"{len(pieces.bad_corners)}c{len(pieces.misplaced_edges)}e"
 
+    def bad_edges(self, axis: str) -> int:
+        """How many edges are bad on an axis."""
+        return len(bad_pieces.seen(self.lines["normal"].encode()).axes[axis].bad_edges)
+
     def may_start(self, step: str) -> bool:
         """Whether a step may start: an orientation does, and a reduction after its own."""
         return step.startswith("eo") or self.count(step.split("-")[1], "normal")[0] == 0

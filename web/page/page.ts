@@ -184,14 +184,14 @@ export class Page {
     if (!fmc) return;
     const turn = this.#turn;
     try {
-      const { unread, parts, kept, doubt, doubted } = await this.#byHand.ask("readWritten", fmc);
+      const { unread, parts, kept, doubt, doubted, undoing } = await this.#byHand.ask("readWritten", fmc);
       if (turn !== this.#turn) return;
       const joined = withOthers(this.#state.kept, kept);
       this.#change({ ...(parts.length > 0 && { parts }), kept: joined.kept }, { isStep: !isNew });
       tell(part("alert"), whyUnread(unread) || joined.why);
       // once, where it can be mended
       if (doubt === null || doubted < 0) this.#scramble.tellDoubt(doubt);
-      else this.#line.doubt(doubted, wordsOfDoubt(doubt, fmc.text));
+      else this.#line.doubt(doubted, wordsOfDoubt(doubt, fmc.text, { turns: parts[doubted].normal, undoing }));
     } catch (fault) {
       if (turn === this.#turn && !(fault instanceof Stopped)) tell(part("alert"), unanswered(fault));
     }
@@ -252,6 +252,8 @@ export class Page {
     const cube = { scramble, written, parts, reached, facts: views.normal.facts, made: lastOf(walk.totals) };
     this.#cube = cube;
     this.#nets.show(views, walk, () => this.#byHand.ask("framesOf", { scramble, parts }));
+    // a solved cube isn't left, dimmed, beside the first scramble that can't be read
+    part("cube").hidden = isBare(this.#state);
     this.#line.describe(walk, whole, written);
     setUsable(true);
     part("choices").hidden = isBare(this.#state);

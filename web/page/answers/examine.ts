@@ -99,10 +99,10 @@ function examined(nissy: Nissy, { text, parts }: { text: string; parts: Part[] }
 /** The cube on both sides after the scramble and after each move of some parts. */
 export function framesOf(
   nissy: Nissy, { scramble, parts }: { scramble: string; parts: Part[] },
-): { move: string; views: Record<Side, View> }[] {
+): { move: string; total: number; views: Record<Side, View> }[] {
   const moves = singleMoves(parts);
   return positionsOf(nissy, scramble, moves).map((position, at) => (
-    { move: at === 0 ? "" : bracketed([moves[at - 1]]), views: viewsOf(nissy, position) }));
+    { move: at === 0 ? "" : bracketed([moves[at - 1]]), total: position.count, views: viewsOf(nissy, position) }));
 }
 
 function offerOf(nissy: Nissy, step: OfferedStep, position: Position): Offer {

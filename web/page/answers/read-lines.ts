@@ -69,11 +69,12 @@ function readAllByHand(nissy: Nissy, steps: PlainLine[]): { parts: Part[]; begin
 export type Written = { text: string; at: number };
 
 /** The steps and the candidates of an attempt, the first line of it that can't be read, if any, what makes one doubt
- * how it was read, and which step is in doubt, or -1. */
+ * how it was read, which step is in doubt, or -1, and what undoes that on the normal side. */
 export function readWritten(nissy: Nissy, { text, at }: Written) {
   const { attempt: { steps, candidates }, doubt } = nissy.checkAttempts(text)[at];
   const { parts, begins, unread } = readAllByHand(nissy, steps);
   const read = candidates.map((each) => ({ note: each.note, ...readAllByHand(nissy, each.steps) }));
+  const doubted = begins.findIndex((begin) => text.slice(0, begin).split("\n").length === doubt?.place.line);
   // an address has no candidate without moves
   const kept = read.filter((each) => each.parts.length > 0);
   return {
@@ -81,7 +82,8 @@ export function readWritten(nissy: Nissy, { text, at }: Written) {
     kept: kept.map((each) => ({ parts: each.parts, note: each.note.slice(0, LONGEST_NOTE), next: "" })),
     unread: [unread, ...read.map((each) => each.unread)].find((each) => each !== null) ?? null,
     doubt,
-    doubted: begins.findIndex((begin) => text.slice(0, begin).split("\n").length === doubt?.place.line),
+    doubted,
+    undoing: nissy.invert(parts[doubted]?.normal ?? ""),
   };
 }
 

@@ -1,7 +1,7 @@
 // The card of the cube: the nets of both sides, the pieces marked on them, and moves played on them.
 import { AXES, type Facts } from "../../module/shared/facts.js";
 import { stickersOf } from "../../module/shared/stickers.js";
-import { present } from "../shared/certain.js";
+import { lastOf, present } from "../shared/certain.js";
 import { announce, element, part, spoken, tell } from "../shared/element.js";
 import { emptyNet, showCube, stickerOf } from "./net.js";
 import {
@@ -18,43 +18,49 @@ const BEAT = 700;
 function marksOf({ badEdges, badCorners, misplacedEdges, case: cases }: Facts, choice: string) {
   const [kind, name] = choice.split(" ");
   const axis = present(AXES.find((each) => axisName(each) === name));
-  if (kind === "EO") return { pieces: badEdges[axis], words: `${badEdges[axis].length} bad` };
+  const bad = badEdges[axis];
+  if (kind === "EO") return { pieces: bad, words: bad.length === 0 ? "done" : `${bad.length} bad` };
   return { pieces: [...badCorners[axis], ...misplacedEdges[axis]], words: cases[axis] };
 }
 
-/** Shows a cube on a net, with what a choice marks of it. @param reached by the line, which hides no colour */
-export function showMarked(net: SVGElement, side: Side, { letters, facts }: View, choice: string, reached = choice) {
+/** Shows a cube on a net, with what a choice marks of it: if that is nothing, in its colours. */
+export function showMarked(net: SVGElement, side: Side, { letters, facts }: View, choice: string) {
   const marks = choice === "" ? null : marksOf(facts, choice);
   const words = marks === null ? "" : `${choice}: ${marks.words}`;
   const names = marks === null ? "" : `, ${marks.pieces.join(" ") || "none"}`;
   const title = `The cube on the ${side} side${words === "" ? "" : `; ${words}${names}`}`;
-  const isReached = marks?.pieces.length === 0 && choice === reached;
-  showCube(net, letters, title, marks === null || isReached ? null : new Set(stickersOf(marks.pieces)));
+  showCube(net, letters, title, marks === null || marks.pieces.length === 0 ? null : new Set(stickersOf(marks.pieces)));
   return words === "" ? "" : ` · ${words}`;
 }
 
-/** What each move of a line leads to, as far as it is reached, and last what is reached in the end. */
-function goalsOf(walk: Walk): string[] {
+/** The looks at a line: after how many of its single moves, and at what these lead to. At the end of a step one looks at
+ * what it reached, and then at what the next one leads to. */
+function looksOf(walk: Walk): { made: number; goal: string }[] {
   const reached = walk.parts.map((_, at) => newlyReached(walk, at)[0] ?? "");
   const last = reached.filter(Boolean).at(-1) ?? "";
-  const goalOf = (at: number) => reached.slice(at).find(Boolean) ?? last;
-  return [...walk.parts.flatMap((part, at) => singleMoves([part]).map(() => goalOf(at))), last];
+  const goals = walk.parts.flatMap((part, at) =>
+    singleMoves([part]).map(() => reached.slice(at).find(Boolean) ?? last));
+  return [...goals, last].flatMap((goal, made) => {
+    const done = goals[made - 1] ?? goal;
+    return (done === goal ? [goal] : [done, goal]).map((each) => ({ made, goal: each }));
+  });
 }
 
 /** Each move in an element of its own. */
 const moveByMove = (moves: string) => moves.split(/([^ ()]+)/).map((word, at) =>
   (at % 2 === 0 ? word : element("span", { class: "move" }, word)));
 
-type Frame = { move: string; views: Record<Side, View> };
+type Frame = { move: string; total: number; views: Record<Side, View> };
 
 export class Nets {
   #nets = { normal: emptyNet(), inverse: emptyNet() };
   #views: Record<Side, View> | null = null;
-  #count = 0;
-  #goals: string[] = [];
+  #total = 0;
+  #looks: ReturnType<typeof looksOf> = [];
+  #last = 0;
   #ask: (() => Promise<Frame[]>) | null = null;
   #frames: Frame[] | null = null;
-  #frame = 0;
+  #at = 0;
   #timer = 0;
   #open = "";
   #pointed = "";
@@ -89,7 +95,7 @@ export class Nets {
     // a sheet has the whole line
     addEventListener("beforeprint", () => {
       this.stop();
-      this.#go(this.#count);
+      this.#go(this.#last);
     });
     part("play-back").addEventListener("click", () => this.#step(-1));
     part("play-on").addEventListener("click", () => this.#step(1));
@@ -100,14 +106,13 @@ export class Nets {
     this.stop();
     this.#pointed = "";
     this.#views = views;
-    this.#goals = goalsOf(walk);
-    const count = this.#goals.length - 1;
-    [this.#count, this.#frame] = [count, count];
+    this.#total = lastOf(walk.totals);
+    this.#looks = looksOf(walk);
+    [this.#last, this.#at] = [this.#looks.length - 1, this.#looks.length - 1];
     part("shown-line").replaceChildren(...walk.parts.flatMap((each, at) =>
       [...withCases(bracketed([each]), walk.passed[at], moveByMove), " "]));
     [this.#ask, this.#frames] = [ask, null];
-    part("cube").hidden = false;
-    part("player").hidden = count === 0;
+    part("player").hidden = this.#last === 0;
     part("piece").value = "";
     this.#draw();
   }
@@ -177,51 +182,52 @@ export class Nets {
 
   async #begin() {
     if (!(await this.#load())) return;
-    const isOver = this.#frame >= this.#count;
+    const isOver = this.#at >= this.#last;
     // who wants less motion goes by single moves, one a press
-    if (matchMedia("(prefers-reduced-motion: reduce)").matches) return this.#go(isOver ? 0 : this.#frame + 1);
-    this.#go(isOver ? 0 : this.#frame);
+    if (matchMedia("(prefers-reduced-motion: reduce)").matches) return this.#go(isOver ? 0 : this.#at + 1);
+    this.#go(isOver ? 0 : this.#at);
     if (this.#timer !== 0) return;
     this.#play.textContent = "Pause";
     this.#timer = setInterval(() => {
-      this.#go(this.#frame + 1);
-      if (this.#frame >= this.#count) this.stop();
+      this.#go(this.#at + 1);
+      if (this.#at >= this.#last) this.stop();
     }, BEAT);
   }
 
   async #step(by: number) {
     this.stop();
     if (!(await this.#load())) return;
-    this.#go(this.#frame + by);
+    this.#go(this.#at + by);
     announce(spoken(`${part("played").textContent}${part("marked-normal").textContent}`));
   }
 
-  #go(frame: number) {
-    this.#frame = Math.min(this.#count, Math.max(0, frame));
+  #go(at: number) {
+    this.#at = Math.min(this.#last, Math.max(0, at));
     this.#draw();
   }
 
   #draw() {
     if (this.#views === null) return;
     const { views, choice } = this.#shown();
+    const { made } = this.#looks[this.#at];
     for (const side of SIDES) {
-      part(`marked-${side}`).textContent =
-        showMarked(this.#nets[side], side, views[side], choice, this.#goals[this.#count]);
+      part(`marked-${side}`).textContent = showMarked(this.#nets[side], side, views[side], choice);
     }
-    const move = this.#frames?.[this.#frame].move;
-    part("played").textContent = `${this.#frame} of ${this.#count}${move ? `: ${move}` : ""}`;
+    const { move = "", total = this.#total } = this.#frames?.[made] ?? {};
+    part("played").textContent = `${total} of ${this.#total}${move === "" ? "" : `: ${move}`}`;
     // it keeps the focus, for who goes to an end by keys
-    part("play-back").setAttribute("aria-disabled", String(this.#frame === 0));
-    part("play-on").setAttribute("aria-disabled", String(this.#frame === this.#count));
+    part("play-back").setAttribute("aria-disabled", String(this.#at === 0));
+    part("play-on").setAttribute("aria-disabled", String(this.#at === this.#last));
     part("shown-line").querySelectorAll(".move").forEach((each, at) =>
-      each.setAttribute("aria-current", String(at === this.#frame - 1)));
+      each.setAttribute("aria-current", String(at === made - 1)));
     this.#tellWhy();
   }
 
   #shown() {
-    const followed = this.#pointed || this.#open || this.#goals[this.#frame];
+    const { made, goal } = this.#looks[this.#at];
+    const followed = this.#pointed || this.#open || goal;
     const choice = this.#choice.value === FOLLOW ? followed : this.#choice.value;
-    const frame = this.#frame === this.#count ? null : this.#frames?.[this.#frame];
+    const frame = this.#at === this.#last ? null : this.#frames?.[made];
     return { views: present(frame?.views ?? this.#views), choice };
   }
 }

@@ -268,7 +268,10 @@ export class LineSoFar {
       use(added);
       tell(part("own-read"), wordsOfLeftOut(plain.leftOut));
     } catch (fault) {
-      if (isStill() && !(fault instanceof Stopped)) showFault(where, field, plain, thrownError(fault), text);
+      if (!isStill() || fault instanceof Stopped) return;
+      showFault(where, field, plain, thrownError(fault), text);
+      // it may come below what is seen, and the field stays in view
+      for (const each of [where, field]) each.scrollIntoView({ block: "nearest", behavior: "instant" });
     }
   }
 }

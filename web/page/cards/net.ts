@@ -26,7 +26,8 @@ function stickerAt({ row, column }: NetPlace) {
 
 /** An empty net, with its 54 stickers in the order of the engine's letters. */
 export function emptyNet() {
-  const net = shape("svg", { viewBox: `-1 -1 ${distanceOf(12)} ${distanceOf(9)}`, role: "img", class: "net" });
+  const viewBox = `-1 -1 ${distanceOf(12)} ${distanceOf(9)}`;
+  const net = shape("svg", { viewBox, preserveAspectRatio: "xMinYMid", role: "img", class: "net" });
   net.append(...NET.map(stickerAt));
   return net;
 }

@@ -105,15 +105,20 @@ function marked(text: string, place: number) {
   return element("pre", { "aria-hidden": "true", tabindex: -1 }, line, `\n${" ".repeat([...before].length)}^`);
 }
 
-/** What is said of a doubt that a text is read as it was meant, and of the word that stands there. */
-const WORDS_OF_DOUBTS: Record<string, (word: string) => string> = {
+/** Turns on the normal side, and those that undo them. */
+type Turns = { turns: string; undoing: string };
+
+/** What is said of a doubt that a text is read as it was meant, and of the word there, with the turns that it names. */
+const WORDS_OF_DOUBTS: Record<string, (word: string, named: Turns | null) => string> = {
   "another scramble": () => "a whole scramble begins here, and more follows it",
   "several solutions": () => "of several solutions none is said to be the one that counts",
-  side: (word) => (/^pre-?mov/i.test(word)
-    ? "premoves stand before the scramble, but are read after it: premoves R U are (U' R') in brackets"
-    : `“${word}” names a side, and its moves may belong on the other one`),
+  side: (word, named) => {
+    if (!/^pre-?mov/i.test(word)) return `“${word}” names a side, and its moves may belong on the other one`;
+    const how = named?.turns ? `premoves ${named.turns} are (${named.undoing}) in brackets` : "write them inverted, in brackets";
+    return `premoves stand before the scramble, but are read after it: ${how}`;
+  },
   letters: (word) => `“${word}” is read as moves`,
-  "small letters": (word) => `“${word}” is read as a wide turn`,
+  "small letters": (word) => `“${word}” is read as a wide turn: face turns have capital letters`,
   comment: () => "moves stand in a comment, and are left out",
   repetition: (word) => `“${word}” may say that moves are made several times, and they are read once`,
   insertion: (word) =>
@@ -121,8 +126,13 @@ const WORDS_OF_DOUBTS: Record<string, (word: string) => string> = {
   "a part": () => "as a whole this doesn't solve the scramble, but a part of it does",
 };
 
-export const wordsOfDoubt = ({ reason, place: { at } }: AttemptDoubt, text: string) =>
-  `In doubt: ${WORDS_OF_DOUBTS[reason](wordAt(text, at))}.`;
+/** Whether the word at a place stands before all moves of its line, or is all of their comment. */
+const namesLine = (text: string, at: number) => /(^|\n)[^\w\n]*$/.test(text.slice(0, at))
+  || (/\/\/ *$/.test(text.slice(0, at)) && /^[\w-]+ *(\n|$)/.test(text.slice(at)));
+
+/** @param turns those of its step */
+export const wordsOfDoubt = ({ reason, place: { at } }: AttemptDoubt, text: string, turns: Turns | null = null) =>
+  `In doubt: ${WORDS_OF_DOUBTS[reason](wordAt(text, at), namesLine(text, at) ? turns : null)}.`;
 
 /** Shows under a field what makes one doubt how its text was read, or takes the last one away. */
 export function showDoubt(where: HTMLElement, doubt: AttemptDoubt | null, text: string) {
