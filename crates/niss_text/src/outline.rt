@@ -112,8 +112,7 @@ impl Outline {
         let mut seen = self;
         if !self.is_found {
             seen.has_name = self.has_name || is_head(line) || (line.is_moves && line.is_whole);
-            seen.has_several =
-                !seen.has_name && (self.has_several || names_solutions(text, line));
+            seen.has_several = !seen.has_name && (self.has_several || names_solutions(text, line));
             seen.is_found = line.is_moves;
             seen.is_whole = line.is_whole;
             seen.first = at;
