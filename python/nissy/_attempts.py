@@ -84,7 +84,7 @@ class Attempt(NamedTuple):
 NOTHING = PlainLine("", (), ())
 # the steps of a group, and all in one
 _Joined = Tuple[Tuple[PlainLine, ...], PlainLine]
-_NONE: _Joined = (), NOTHING
+_NONE: _Joined = ((), NOTHING)
 # the steps, the solution and the candidates of an attempt
 _AfterScramble = Tuple[Tuple[PlainLine, ...], Optional[PlainLine], Tuple[AttemptCandidate, ...]]
 
