@@ -114,7 +114,8 @@ const WORDS_OF_DOUBTS: Record<string, (word: string, named: Turns | null) => str
   "several solutions": () => "of several solutions none is said to be the one that counts",
   side: (word, named) => {
     if (!/^pre-?mov/i.test(word)) return `“${word}” names a side, and its moves may belong on the other one`;
-    const how = named?.turns ? `premoves ${named.turns} are (${named.undoing}) in brackets` : "write them inverted, in brackets";
+    const how = named?.turns
+      ? `premoves ${named.turns} are (${named.undoing}) in brackets` : "write them inverted, in brackets";
     return `premoves stand before the scramble, but are read after it: ${how}`;
   },
   letters: (word) => `“${word}” is read as moves`,
