@@ -3,9 +3,7 @@ import re
 
 from best import LONGER, SCRAMBLE, TYPE, address_of
 from browser import Browser
-from passage import EO, cases_of, trigger_of
 from tally import Tally
-from wanted import Position
 
 SIGNS = """return ['on', 'clear', 'none'].map((each) => document.getElementById(`${arguments[0]}-${each}`))
     .map((each) => each.checkVisibility() ? each.textContent : '')"""
@@ -87,25 +85,6 @@ def of_a_list(tally: Tally, browser: Browser) -> None:
     tally.equal("a case", browser.script(SIGNS, "list")[0], "1 on")
     browser.act('[data-cell="eofb.normal"]')
     tally.equal("another list has none", browser.script(SIGNS, "list"), ["", "", ""])
-
-
-def of_one(tally: Tally, browser: Browser) -> None:
-    """A case that all rows have is no choice, and isn't offered; moves may be typed in each list, which no fold hides."""
-    after = f"{address_of(LONGER)}&steps=inverse.B_D_R_F2_B_D"
-    for step, side, is_choice in (
-        ("drrl-eoud", "inverse", False),
-        ("drrl-eoud", "normal", True),
-        ("drfb-eoud", "normal", False),
-    ):
-        rows = Position(LONGER, "", EO).rows(step, side)
-        lines = [row if side == "normal" else f"({row})" for row in rows]
-        triggers = {trigger_of(cases_of(LONGER, EO, step[2:4], line)) for line in lines}
-        tally.equal(f"{step} {side}: whether there are several triggers", len(triggers) > 1, is_choice)
-        browser.open(f"{after}&list={step}.{side}.0")
-        tally.equal(f"{step} {side}: whether these are offered", browser.look("list-filters?"), is_choice)
-        tally.holds(f"{step} {side}: moves may be typed", browser.script("return !part('filter').closest('details')"))
-    browser.script(TYPE, "", "U U")
-    browser.walk(tally, "one that is typed is cleared", ("click", "#list-clear", {"focus": "filter", "filter=": ""}))
 
 
 def of_both_sides(tally: Tally, browser: Browser) -> None:

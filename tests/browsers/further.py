@@ -148,22 +148,6 @@ def shows_found(tally: Tally, browser: Browser, first: list[list[str]], top: int
     tally.holds("which is more than the shortest", found[: len(first)] != first)
 
 
-def says_more(tally: Tally, browser: Browser) -> None:
-    """Rows are called better only if the first of them has fewer moves than the best that is seen; better than the last one they are only more."""
-    begins(browser, NO_BETTER)
-    before = browser.script(ROWS)
-    browser.script(TURN, True)
-    tally.holds("longer ones are found", browser.until(GO_ON + IS_NEW))
-    words = browser.text("best-new")
-    browser.click("#best-new")
-    fresh = [int(row[0]) for row in browser.script(ROWS) if row not in before]
-    tally.holds(
-        f"some belong before the last, and none before the first: {fresh}",
-        fresh and int(before[0][0]) <= fresh[0] <= int(before[-1][0]),
-    )
-    tally.holds(f"so it is said: {words}", re.fullmatch(rf"[0-9]+ more rows?, from {fresh[0]} moves", words))
-
-
 def stays(tally: Tally, browser: Browser) -> None:
     """What was shown stays: once a row is taken and removed, and once the page is loaded again; another scramble begins without."""
     shown = (browser.script(KEYS)[:5], False, "2")
@@ -179,6 +163,22 @@ def stays(tally: Tally, browser: Browser) -> None:
     browser.fill("scramble", "R U F")
     browser.wait_best()
     tally.equal("of another scramble the shortest are shown", browser.value("best-slack"), "0")
+
+
+def says_more(tally: Tally, browser: Browser) -> None:
+    """Rows are called better only if the first of them has fewer moves than the best that is seen; better than the last one they are only more."""
+    begins(browser, NO_BETTER)
+    before = browser.script(ROWS)
+    browser.script(TURN, True)
+    tally.holds("longer ones are found", browser.until(GO_ON + IS_NEW))
+    words = browser.text("best-new")
+    browser.click("#best-new")
+    fresh = [int(row[0]) for row in browser.script(ROWS) if row not in before]
+    tally.holds(
+        f"some belong before the last, and none before the first: {fresh}",
+        fresh and int(before[0][0]) <= fresh[0] <= int(before[-1][0]),
+    )
+    tally.holds(f"so it is said: {words}", re.fullmatch(rf"[0-9]+ more rows?, from {fresh[0]} moves", words))
 
 
 def pauses(tally: Tally, browser: Browser) -> None:

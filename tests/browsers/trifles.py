@@ -37,9 +37,12 @@ def copies(tally: Tally, browser: Browser) -> None:
     selected = "const it = part('uncopied-text'); return it.value.slice(it.selectionStart, it.selectionEnd)"
     tally.holds("the text is seen", browser.until("return part('uncopied').matches(':popover-open')"))
     text = browser.script(selected)
+    lines, _, address = text.rpartition("\n\n")
     tally.holds(
-        f"all of it is selected: {text!r}", text.endswith("(B D R F2 B D) // EO U/D (6)") and text.startswith("R' U' F")
+        f"all of it is selected: {text!r}",
+        lines.startswith("R' U' F") and lines.endswith("(B D R F2 B D) // EO U/D (6)"),
     )
+    tally.holds("to the address by which it is taken back", address.endswith("&kept=inverse.B_D_R_F2_B_D"))
     closed = {"focus": "copy-kept", "n :popover-open": 0}
     browser.walk(
         tally, "it has the focus, and is closed", ("wait", {"focus": "uncopied-text"}), ("press", Keys.ESCAPE, closed)

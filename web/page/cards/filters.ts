@@ -34,15 +34,13 @@ export function ofCases<Row>(field: string, casesOf: (row: Row) => string[]): Ki
   return { field, test };
 }
 
-/** Offers cases as chips, each with how many rows have it, the nearest first; those that are pressed stay.
- * One case that all rows have is no choice. */
+/** Offers cases as chips, each with how many rows have it, the nearest first; those that are pressed stay. */
 export function offerCases(name: string, all: string[][]) {
   const [field, chips] = [part(name), part(`${name}-chips`)];
   const pressed = pressedIn(field.value);
   const counts = new Map(pressed.map((each) => [each, 0]));
   for (const each of all.flatMap((cases) => [...new Set(cases)])) counts.set(each, (counts.get(each) ?? 0) + 1);
   const names = [...counts.keys()].sort((one, other) => farnessOf(one) - farnessOf(other));
-  chips.parentElement?.toggleAttribute("hidden", names.length < 2 && pressed.length === 0);
   const focused = document.activeElement?.closest(`#${chips.id} button`)?.dataset.case;
   chips.replaceChildren(...names.map((each) => {
     const isPressed = pressed.includes(each);
@@ -113,7 +111,7 @@ export class Filters<Row> {
     }
     part(`${name}-clear`).addEventListener("click", () => {
       // what is hidden can't keep the focus
-      (part(`${name}-on`).closest("summary") ?? this.#fields()[0]).focus({ preventScroll: true });
+      part(`${name}-on`).closest("summary")?.focus({ preventScroll: true });
       this.clear();
       if (changed()) announce(note.textContent);
     });

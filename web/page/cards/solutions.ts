@@ -7,6 +7,7 @@ import { addRows, roveWithin, showRows, starButton, takeButton, takeNamed, type 
 import { axisName, partOf, reductionsAfter, stateOf, stepNamed, titleOf, type Part } from "../shared/offered-steps.js";
 import { signsOfCases, triggerOf } from "../shared/passage.js";
 import { sidesOfTwins, type Entry } from "../shared/twins.js";
+import { isNarrow } from "../shared/view.js";
 import type { Calls } from "../shared/questions.js";
 import type { Rows } from "../answers/list-rows.js";
 import type { List } from "../state/address.js";
@@ -69,6 +70,8 @@ export class SolutionList {
     part("solutions-close").addEventListener("click", () => acts.change(null));
     part("solutions-more").addEventListener("click", () => this.#more());
     roveWithin(this.#groups);
+    // so that rows are seen below them
+    part("list-filters").open = !isNarrow();
   }
 
   end() {
@@ -132,6 +135,12 @@ export class SolutionList {
     this.#order();
     const all = `${rows.whole ? "" : "more than "}${counted(rows.all, "solution")}`;
     announce(`${nameOfList(present(this.#list))}: ${all}.`);
+  }
+
+  /** Puts the focus on the field of the filter, also where the filters are folded. */
+  focusFilter() {
+    part("list-filters").open = true;
+    part("filter").focus();
   }
 
   focus() {
