@@ -5,7 +5,7 @@ import { BestContinuations } from "./cards/best.js";
 import { Readiness, type Calls } from "./shared/questions.js";
 import { lastOf } from "./shared/certain.js";
 import { Nets } from "./cards/cube.js";
-import { announce, announceLater, part, setBusy, spoken, tell } from "./shared/element.js";
+import { announce, announceLater, part, setBusy, spoken, tell, withData } from "./shared/element.js";
 import { NextFocus, type Where } from "./state/next-focus.js";
 import { DeskStrip, type Keeping } from "./cards/scrambles-on-desk.js";
 import { KeptCandidates } from "./cards/kept.js";
@@ -300,8 +300,8 @@ export class Page {
   }
 
   #goBack() {
-    this.#wayBack.go((key) =>
-      this.#best.reveal(key) ?? this.#list.reveal(key) ?? this.#table.cell(key) ?? this.#line.control(key));
+    this.#wayBack.go((key) => this.#best.reveal(key) ?? this.#list.reveal(key) ?? this.#table.cell(key)
+      ?? withData(part("line-list"), "key", key));
   }
 
   async #showList() {

@@ -5,7 +5,7 @@ import { addressOf, emptyState, fitsAddress, type Candidate, type List, type Sta
 import { lastOf, present } from "../shared/certain.js";
 import { copy, fmcOfAll, setUps } from "../shared/copying.js";
 import {
-  announce, button, counted, element, part, spoken, tell, type Attributes, type PageElement,
+  announce, button, counted, element, part, spoken, tell, withData, type Attributes, type PageElement,
 } from "../shared/element.js";
 import { MOST_COMPARED, compare } from "./comparison.js";
 import { LONGEST_NOTE, MOST_CANDIDATES, MOST_MOVES } from "../state/limits.js";
@@ -182,15 +182,11 @@ export class KeptCandidates {
     const { activeElement } = document;
     const focused = this.#list.contains(activeElement) ? activeElement?.dataset.control : null;
     this.#list.replaceChildren(...this.#sorted().map((each) => this.#item(each)));
-    if (focused) this.#control(focused)?.focus({ preventScroll: true });
+    if (focused) withData(this.#list, "control", focused)?.focus({ preventScroll: true });
     this.#compared = this.#compared.filter((name) => this.#candidates.some((each) => nameOf(each) === name));
     const isKnown = this.#compared.length > 1 && this.#walks.length > 0;
     tell(part("kept-compare"), isKnown ? `Compare ${this.#compared.length}` : "");
     tell(part("kept-count"), this.#candidates.length === 0 ? "" : counted(this.#candidates.length, "line"));
-  }
-
-  #control(name: string) {
-    return [...this.#list.querySelectorAll("[data-control]")].find(({ dataset }) => dataset.control === name);
   }
 
   #item({ candidate, walk, at }: Shown) {
@@ -255,6 +251,6 @@ export class KeptCandidates {
     const next = row?.nextElementSibling ?? row?.previousElementSibling;
     const control = next?.querySelector("[data-control^=away]")?.dataset.control ?? "";
     this.leave(this.#candidates.toSpliced(at, 1));
-    if (row) (this.#control(control) ?? part("kept-back")).focus({ preventScroll: true });
+    if (row) (withData(this.#list, "control", control) ?? part("kept-back")).focus({ preventScroll: true });
   }
 }

@@ -16,7 +16,7 @@ import type { Walk } from "../answers/examine.js";
 const LONGEST_PASTED = 65536;
 const UNKNOWN = "…";
 const NO_MOVES = "No moves yet";
-const OF_MOVES = ["line-list", "whole", "set-ups", "clear", "bar-total", "bar-undo", "keep-line"];
+const OF_MOVES = ["line-list", "whole", "set-ups", "bar-total", "bar-undo", "keep-line"];
 
 /** Words in a row: `one`, `one and another`, `one, another and a third`. */
 const listed = (words: string[]) => [words.slice(0, -1).join(", "), ...words.slice(-1)].filter(Boolean).join(" and ");
@@ -162,10 +162,6 @@ export class LineSoFar {
     if (this.#doubt && !isRead) tell(this.#words[this.#doubt.index].doubt, this.#doubt.words);
     part("set-ups").replaceChildren(...setUps(walk.now.lines));
     tell(part("finished"), endOf(walk));
-  }
-
-  control(key: string) {
-    return [...part("line-list").querySelectorAll("[data-key]")].find(({ dataset }) => dataset.key === key) ?? null;
   }
 
   /** Takes what makes one doubt a step that was read of a text. */

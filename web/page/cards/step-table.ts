@@ -1,5 +1,5 @@
 // The table of the steps that may follow: of each what solvers choose it by, and its counts on each side.
-import { counted, element, part } from "../shared/element.js";
+import { counted, element, part, withData } from "../shared/element.js";
 import {
   SIDES, isReduced, nameOfSide, stateOf, statesOf, titleOf, type OfferedStep, type Part, type Side, type Step,
 } from "../shared/offered-steps.js";
@@ -88,9 +88,7 @@ export class StepTable {
     if (focused) this.cell(focused)?.focus({ preventScroll: true });
   }
 
-  cell(name: string) {
-    return [...this.#body.querySelectorAll("[data-cell]")].find(({ dataset }) => dataset.cell === name) ?? null;
-  }
+  cell = (name: string) => withData(this.#body, "cell", name);
 
   #least() {
     return this.#body.querySelector(".least");

@@ -14,6 +14,10 @@ export function part(id: string): PageElement {
   return found as PageElement;
 }
 
+/** The part of another one that has this value as its data of a name, or null. */
+export const withData = (within: HTMLElement, name: string, value: string) =>
+  [...within.querySelectorAll(`[data-${name}]`)].find(({ dataset }) => dataset[name] === value) ?? null;
+
 export const inner = (within: ParentNode, selector: string): HTMLElement => present(within.querySelector(selector));
 
 type Happened = Event & { readonly target: PageElement; readonly currentTarget: PageElement };

@@ -105,10 +105,9 @@ function marked(text: string, place: number) {
   return element("pre", { "aria-hidden": "true", tabindex: -1 }, line, `\n${" ".repeat([...before].length)}^`);
 }
 
-/** Turns on the normal side, and those that undo them. */
 type Turns = { turns: string; undoing: string };
 
-/** What is said of a doubt that a text is read as it was meant, and of the word there, with the turns that it names. */
+/** What is said of a doubt that a text is read as it was meant, and of the word there, with the turns named by it. */
 const WORDS_OF_DOUBTS: Record<string, (word: string, named: Turns | null) => string> = {
   "another scramble": () => "a whole scramble begins here, and more follows it",
   "several solutions": () => "of several solutions none is said to be the one that counts",

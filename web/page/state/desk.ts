@@ -142,7 +142,7 @@ export class Desk {
   #putBack(id: number | null) {
     const removed = this.#removed.get(id);
     if (removed === undefined || this.#sheets.length >= MOST_SHEETS) return null;
-    this.#change((sheets) => sheets.toSpliced(removed.at, 0, removed.sheet));
+    this.#change((sheets) => [...sheets.slice(0, removed.at), removed.sheet, ...sheets.slice(removed.at)]);
     return removed.sheet;
   }
 }
