@@ -220,16 +220,13 @@ def reads_reductions(tally: Tally, browser: Browser, said: str, step: str) -> No
     tally.equal("they come back from the address", browser.script(KEPT_WORDS), before)
     browser.click("#copy-kept")
     browser.until("return document.getElementById('status').textContent.startsWith('Copied')")
-    tally.holds(
-        "the copy says it too, below the moves", f"\n{step}\n// {said}\n// {noted}\n" in browser.texts("#status")[0]
-    )
     text = browser.texts("#status")[0].removeprefix("Copied: ")
+    tally.holds("the copy says it too, below the moves", f"\n{step}\n// {said}\n// {noted}\n" in text)
     notes = browser.script(NOTES)
     tally.equal("one has a note", [each for each in notes if each], [noted])
     for taken in (PASTE_ALL, PASTE):
-        for again in (False, True):
-            if not again:
-                browser.open()
+        browser.open()
+        for _ in "once", "again":
             browser.script(taken, text)
             browser.settle("return document.querySelectorAll('#kept-list .total').length > 0")
             browser.until(KEPT_SAID)
