@@ -24,6 +24,7 @@ SHOWN = """return all('#comparison-lines li').map((each) => ({
     bad: [...each.querySelectorAll('.net')].map((net) => net.querySelectorAll('.bad').length),
     steps: [...each.querySelectorAll('tbody tr')].map((row) => [...row.children].map((cell) => cell.textContent)),
     texts: [...each.querySelectorAll(':scope > p')].slice(1).map((one) => one.textContent) }))"""
+REDUCED = "&kept=normal.R-_U_F-_R_L~normal.D-_F_B-_L2_D,inverse.B_D_R_F2_B_D~normal.R_B-_D2_R,normal.D"
 COMPARE = "[...document.querySelectorAll('#kept-list [data-control^=compare]')]"
 
 
@@ -124,3 +125,17 @@ def chosen(tally: Tally, browser: Browser) -> None:
         ("comes", "steps", 1, {"comparison?": False}),
     )
     tally.holds("it is one of them", browser.text("bracketed") in map(line_of, (EO, OTHER)))
+
+
+def says_nothing_of_no_steps(tally: Tally, browser: Browser) -> None:
+    """How steps are counted is said only if a step follows one of the lines."""
+    notes = "return seen('#comparison > .note').length"
+    browser.open(address_of(LONGER) + REDUCED)
+    browser.wait_best()
+    browser.until("return all('#kept-list .total').every((each) => each.textContent !== '')")
+    for lines, wanted in (((DR, ("(B D R F2 B D) R B' D2 R", "")), 0), ((FIRST,), 1)):
+        chooses(browser, *lines)
+        browser.click("#kept-compare")
+        tally.holds("they come", browser.until("return document.querySelector('#comparison').open"))
+        tally.equal("what is said of steps", browser.script(notes), wanted)
+        browser.press(Keys.ESCAPE)

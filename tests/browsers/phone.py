@@ -296,3 +296,19 @@ def lies(tally: Tally, browser: Browser) -> None:
     rows = "return [all('#best-body tr').length, part('best-table').offsetHeight]"
     count, height = browser.script(rows)
     tally.holds(f"the room of {count} rows: {height}", count == 6 and height <= browser.script(room) < height + 8)
+
+
+def has_stars_beside_short_moves(tally: Tally, browser: Browser) -> None:
+    """The star of a short reduction stands beside its moves, before which a phone writes no cases; that of a long one below."""
+    after = "#scramble=R-_U-_F_U2_F-_L_B_D2_R2_D_R2_U-_D-_R_B2_D-_B_R-_F_U2_F2_R-_U-_F&steps=inverse.L_F_U-_D2_B&list="
+    rows = """return all('#solutions-groups li').map((row) => {
+        const [moves, star] = ['.take', '.star'].map((name) => row.querySelector(name).getBoundingClientRect());
+        return [row.querySelector('.take').dataset.key, moves.right <= star.left, moves.bottom <= star.top];
+    })"""
+    for width in (320, 390):
+        browser.resize(width, 844, True)
+        browser.go(after + "drud-eofb.both.0")
+        tally.equal(f"{width}: a short one", browser.script(rows), [["D2 R (U R)", True, False]])
+        browser.go(after + "drrl-eofb.normal.0")
+        tally.equal(f"{width}: long ones", {below for _, _, below in browser.script(rows)}, {True})
+    browser.resize()

@@ -1,5 +1,5 @@
 // Lines that are kept beside each other: nets with what is left to do, how many steps follow, the first of the best.
-import { button, counted, element, part, spoken } from "../shared/element.js";
+import { button, counted, element, inner, part, spoken } from "../shared/element.js";
 import { SIDES, bracketed, nameOfSide, stateOf, stepNamed, type Part, type Side } from "../shared/offered-steps.js";
 import { showMarked } from "./cube.js";
 import { emptyNet } from "./net.js";
@@ -53,6 +53,7 @@ function itemOf({ parts, note, next, goOn }: ComparedLine, compared: Compared) {
 }
 
 export function compare(lines: ComparedLine[], told: Compared[]) {
+  inner(part("comparison"), ".note").hidden = told.every(({ steps }) => steps.length === 0);
   part("comparison-lines").replaceChildren(...lines.map((line, at) => itemOf(line, told[at])));
   part("comparison").showModal();
 }

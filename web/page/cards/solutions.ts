@@ -15,7 +15,7 @@ import type { List } from "../state/address.js";
 /** `longest`: how many signs its longest row has; `list`: of those that are shown. */
 export type Group = { name: string; entries: Entry[]; longest: number; list: HTMLElement | null };
 
-/** From more signs on a line leaves no room for what is pressed beside it on a phone. */
+/** Moves of more signs leave no room for what is pressed beside them on a phone, which writes no cases there. */
 const LONG_LINE = 18;
 const MOST_SHOWN = 200;
 const LOOKING = "Looking …";
@@ -229,7 +229,7 @@ export class SolutionList {
   #extend(group: Group, count: number) {
     const { name, entries, longest } = group;
     if (group.list === null) {
-      group.list = element("ul", longest > LONG_LINE ? { class: "long" } : {});
+      group.list = element("ul", entries.some(({ moves }) => moves.length > LONG_LINE) ? { class: "long" } : {});
       group.list.style.setProperty("--longest", String(longest));
       const heading = element("h3", {}, `${name}: ${counted(entries.length, "row")}`);
       this.#groups.append(element("div", { class: "group" }, heading, group.list));
