@@ -252,11 +252,10 @@ export class Page {
     const cube = { scramble, written, parts, reached, facts: views.normal.facts, made: lastOf(walk.totals) };
     this.#cube = cube;
     this.#nets.show(views, walk, () => this.#byHand.ask("framesOf", { scramble, parts }));
-    // a solved cube isn't left, dimmed, beside the first scramble that can't be read
-    part("cube").hidden = isBare(this.#state);
     this.#line.describe(walk, whole, written);
     setUsable(true);
-    part("choices").hidden = isBare(this.#state);
+    // no solved cube is left, dimmed, beside the first scramble that can't be read
+    for (const name of ["cube", "choices"]) part(name).hidden = isBare(this.#state);
     this.#best.expect(reached, isBare(this.#state));
     this.#checkList(reached);
     this.#table.begin(cube);
