@@ -125,7 +125,9 @@ def takes(tally: Tally, browser: Browser, width: int) -> None:
         for left in reversed(range(TRIALS)):
             frames = take(browser, later)
             pressable = {scroll for may_press, scroll, _, _, _ in frames if may_press}
-            if len(pressable) == 1 or left == 0:
+            tops = {top for _, _, _, is_hidden, top in frames if not is_hidden}
+            is_waited_for = len(pressable) == 1 and (width >= 960 or len(tops) == 1)
+            if is_waited_for or left == 0:
                 tally.equal(
                     f"{width}: {later}: how far the page is scrolled once it may be", pressable, {frames[-1][1]}
                 )
@@ -135,7 +137,6 @@ def takes(tally: Tally, browser: Browser, width: int) -> None:
             f"{width}: {later}: it may be pressed before and after: {pressable}", frames[-1][0] and not frames[0][0]
         )
         if width < 960:
-            tops = {top for _, _, _, is_hidden, top in frames if not is_hidden}
             tally.equal(f"{width}: {later}: where the cube is below a list that comes", len(tops), 1)
         below, top, _, _, bottom, height = browser.script(PLACES)
         tally.holds(f"{width}: {later}: heading and row from {top} to {bottom}", below <= top < bottom <= height)
