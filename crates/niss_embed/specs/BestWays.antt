@@ -69,6 +69,8 @@ pub record FindsWays (o : Origin) (w : WaysWanted) (room room_now : List Way) (t
   pub looked : told.nodes ≤ w.most_nodes
   pub ended : (told.status ≡ status_number Done) ⊎ (told.status ≡ status_number Cut)
   pub no_fault : told.fault ≡ 0
+  pub no_line : told.line ≡ 0
+  pub no_column : told.column ≡ 0
 
 -- The room is as it was, and this was returned.
 pub record OnlyTells (due : WaysAnswer) (room room_now : List Way) (told : WaysAnswer) : Type 0 where
