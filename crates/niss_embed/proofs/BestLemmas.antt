@@ -26,6 +26,8 @@ finds o w room room_now found told grows looks tells = record {
   looked = subst (λ (n : ℕ). n ≤ w.most_nodes) (sym tells.nodes) looks;
   ended = by_cut found.cut told.status tells.status;
   no_fault = tells.no_fault;
+  no_line = tells.no_line;
+  no_column = tells.no_column;
 }
 
 after : (lines : Result Both Nowhere) (o : Origin) (w : WaysWanted) (room room_now : List Way) (told : WaysAnswer) → StartsAfter lines (Ok o)

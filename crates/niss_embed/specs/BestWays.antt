@@ -1,6 +1,6 @@
 -- What the calls on a scramble and the moves so far leave and tell: the search for the best ways on, and the line of the cube at which
 -- one stands.
-use Rattle.std.specs.Prelude.{◌≡◌, ◌⊎◌, ℕ, ◌<◌, ◌≤◌, if◌then◌else◌, false, Result, Ok, Err, List, [], length, min}
+use Rattle.std.specs.Prelude.{◌≡◌, ◌⊎◌, ℕ, ◌/◌, ◌%◌, ◌==◌, ◌<◌, ◌≤◌, if◌then◌else◌, false, Result, Ok, Err, List, [], length, min}
 use Rattle.niss_moves.specs.Cleaning.{clean_turns}
 use Rattle.niss_moves.specs.Text.{with_words, turn_words}
 use Rattle.niss_shell.specs.Words.{most_limit}
@@ -8,6 +8,7 @@ use Rattle.niss_ways.specs.Rooms.{Grows}
 use Rattle.niss_ways.specs.Truth.{Origin}
 use Rattle.niss_ways.specs.declared.way.Way.{Way}
 use Rattle.niss_ways.specs.declared.finding.FoundWays.{FoundWays}
+use Rattle.niss_ways.specs.declared.finding.Wish.{Wish}
 use Rattle.niss_shell.specs.Names.{Turn}
 use Rattle.niss_embed.specs.LineCalls.{status_number, Does, outcome_of_text}
 use Rattle.niss_embed.specs.Memory.{Memory}
@@ -58,7 +59,18 @@ pub record IsInRange (w : WaysWanted) : Type 0 where
   pub from : w.from ≤ most_limit
   pub to : w.to ≤ most_limit
 
--- They are, and as many ways as are said to stand in the room have place there.
+-- This is wished by numbers in their ranges. The axes are 1 F and B, 2 R and L, and 4 U and D, added.
+pub record IsWish (w : WaysWanted) (wish : Wish) : Type 0 where
+  pub numbers : IsInRange w
+  pub slack : wish.slack ≡ w.slack
+  pub fb : wish.axes.fb ≡ (w.axes % 2 == 1)
+  pub rl : wish.axes.rl ≡ (w.axes / 2 % 2 == 1)
+  pub ud : wish.axes.ud ≡ (w.axes / 4 == 1)
+  pub from : wish.from ≡ w.from
+  pub to : wish.to ≡ w.to
+  pub most : wish.most_looks ≡ w.most_nodes
+
+-- The numbers are in their ranges, and as many ways as are said to stand in the room have place there.
 pub record IsAsked (w : WaysWanted) (room : List Way) : Type 0 where
   pub numbers : IsInRange w
   pub there : w.there ≤ length room
@@ -69,6 +81,8 @@ pub record FindsWays (o : Origin) (w : WaysWanted) (room room_now : List Way) (t
   pub looked : told.nodes ≤ w.most_nodes
   pub ended : (told.status ≡ status_number Done) ⊎ (told.status ≡ status_number Cut)
   pub no_fault : told.fault ≡ 0
+  pub no_line : told.line ≡ 0
+  pub no_column : told.column ≡ 0
 
 -- The room is as it was, and this was returned.
 pub record OnlyTells (due : WaysAnswer) (room room_now : List Way) (told : WaysAnswer) : Type 0 where

@@ -1,6 +1,6 @@
 //! Calls on a scramble and the moves so far: the search for the best ways on, and the line of the cube at which one stands.
 ghost use Rattle.std.specs.Prelude.{◌≡◌, ◌≢◌, ◌≤◌, MatchOption, length};
-ghost use Rattle.niss_embed.specs.BestWays.{FindsBest, IsInRange, Tells, WritesLineAfter, WritesTurns};
+ghost use Rattle.niss_embed.specs.BestWays.{FindsBest, IsInRange, IsWish, Tells, WritesLineAfter, WritesTurns};
 ghost use Rattle.niss_embed.specs.TwoLines.{both_of};
 ghost use Rattle.niss_embed.specs.LineCalls.{status_number};
 ghost use Rattle.niss_embed.specs.Memory.{memory};
@@ -16,8 +16,7 @@ use std::alloc::Allocator;
 
 /// What is wished by some numbers, if they are in their ranges.
 fn wish_of(wanted: &WaysWanted) -> Option<Wish>
-    ensures { MatchOption result (IsInRange wanted.now → ⊥)
-        (λ wish. IsInRange wanted.now × (wish.most_looks ≡ wanted.now.most_nodes)) }
+    ensures { MatchOption result (IsInRange wanted.now → ⊥) (IsWish wanted.now) }
 {
     if wanted.axes >= 8 {
         return None;

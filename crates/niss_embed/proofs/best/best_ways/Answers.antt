@@ -9,9 +9,9 @@ pub returns-in-Ok : goal.returns-in-Ok
 returns-in-Ok g c =
     let w = c.args.wanted.now in
     let room = c.args.room.now in
-    let looks : c.find_ways.result.looks ≤ w.most_nodes = subst (λ (n : ℕ). c.find_ways.result.looks ≤ n) c.in-Some.ensures.1 c.find_ways.ensures.looks in
+    let looks : c.find_ways.result.looks ≤ w.most_nodes = subst (λ (n : ℕ). c.find_ways.result.looks ≤ n) c.in-Some.ensures.most c.find_ways.ensures.looks in
     record {
-      beyond = λ out. absurd (out (record { numbers = c.in-Some.ensures.0; there = omega (arith, c.if-wanted-room.false) }));
+      beyond = λ out. absurd (out (record { numbers = c.in-Some.ensures.numbers; there = omega (arith, c.if-wanted-room.false) }));
       finds = λ asked. found_after (both_of c.args.scramble.now c.args.so_far.now) c.in-Ok.start w room c.find_ways.new.room c.find_ways.result c.answer_of.result
           (subst (λ (r : Result Start Nowhere). StartsAfter (both_of c.args.scramble.now c.args.so_far.now) r) c.in-Ok.is c.start_after.ensures) c.find_ways.ensures.grows looks c.answer_of.ensures;
     }
@@ -21,6 +21,6 @@ returns-in-Err g c =
     let w = c.args.wanted.now in
     let room = c.args.room.now in
     record {
-      beyond = λ out. absurd (out (record { numbers = c.in-Some.ensures.0; there = omega (arith, c.if-wanted-room.false) }));
+      beyond = λ out. absurd (out (record { numbers = c.in-Some.ensures.numbers; there = omega (arith, c.if-wanted-room.false) }));
       finds = λ asked. not_found (both_of c.args.scramble.now c.args.so_far.now) c.in-Err.why w room c.nowhere.result (subst (λ (r : Result Start Nowhere). StartsAfter (both_of c.args.scramble.now c.args.so_far.now) r) c.in-Err.is c.start_after.ensures) c.nowhere.ensures;
     }
