@@ -24,7 +24,7 @@ const wordsOf = (counts: Counts) => [...counts].flatMap(([length, count], at) =>
   element("span", { class: "together" }, `${length} ×${count.toLocaleString("en")}`)]);
 
 function followingOf({ steps, views: { normal: { facts } } }: Compared) {
-  if (steps.length === 0) return element("p", { class: "note" }, "No step follows.");
+  if (steps.length === 0) return element("p", { class: "note" }, "nissy has no step after a DR.");
   const head = SIDES.map((side) => element("th", { scope: "col" }, nameOfSide(side)));
   const rows = steps.map(({ step, counts }) => element("tr", {},
     element("th", { scope: "row" }, stateOf(step), element("small", {}, ` ${caseOfStep(facts, step)}`)),
