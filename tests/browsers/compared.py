@@ -93,7 +93,9 @@ def beside_each_other(tally: Tally, browser: Browser) -> None:
     )
     kept = [f"{side.title()} · DR U/D: {Position(LONGER, *OTHER).case('ud')}" for side in SIDES]
     tally.equal("of one that was kept with a reduction that is marked", shown[line_of(OTHER)]["marks"], kept)
-    tally.equal("after a reduction no step follows", shown[line_of(DR)]["texts"], ["nissy has no step after a DR.", "", ""])
+    tally.equal(
+        "after a reduction no step follows", shown[line_of(DR)]["texts"], ["nissy has no step after a DR.", "", ""]
+    )
 
 
 def chosen(tally: Tally, browser: Browser) -> None:
