@@ -94,50 +94,35 @@ linked() { # COMPILER NAME TEST WORD..: the test of this name with the file as i
     "$1" -std=c11 -O1 -g1 "${@:4}" -pthread $(wraps "$3") -Iinclude -Itests/library -I"$compiled/rows" -o "$compiled/$2.$3" \
         "tests/library/$3.c" "$compiled/$2.o"
 }
-rows_in_c "$compiled/rows"
-by_sanitizers() { # TEST WORD..
-    holds "$1.c is linked with nissy.c" linked gcc sanitized "$1" "${sanitized[@]:2}"
-    add "$compiled/sanitized.$1" "${@:2}"
-    ended
-}
-for trial in "calls few" facts "ways few" "sides few" text attempts fuzz "threads 0 10"; do
-    read -ra words <<< "$trial"
-    part by_sanitizers "${words[@]}"
-done
-by_other() { # TEST NAME COMPILER [RUNNER]: each number of an answer, by a processor of another width or byte order
-    holds "$1.c is linked with it for $2" linked "$3" "$2" "$1" -static
-    add "${@:4}" "$compiled/$2.$1" few
-    ended
-}
-[ ! -e "$compiled/i686.o" ] || for name in calls facts ways sides text attempts; do part by_other $name i686 i686-linux-gnu-gcc; done
-if [ -e "$compiled/s390x.o" ] && ! missing qemu-s390x; then
-    for name in facts ways sides text attempts; do part by_other $name s390x s390x-linux-gnu-gcc qemu-s390x; done
-fi
-sees_races() {
-    holds "threads.c is linked with it for races" linked gcc raced threads -fsanitize=thread
-    add "$compiled/raced.threads" 0 5
-    ended
-}
-part sees_races
 in_c_plus_plus() { # NAME WORD..: the headers in C++ over the file as it was compiled
     g++ -std=c++17 -O1 -DNISSY_IN_C "${@:2}" -pthread "$(wraps nissy)" -Iinclude -Itests/library -I"$compiled/rows" -o "$compiled/$1.plus" \
         tests/library/nissy.cpp "$compiled/$1.o"
 }
-by_headers() { # WHAT NAME WORD..
-    holds "nissy.cpp is linked with it$1" in_c_plus_plus "${@:2}"
-    add "$compiled/$2.plus"
+rows_in_c "$compiled/rows"
+tried() { # WHAT WORDS COMMAND..: links a test by a command, and runs it by these words, between blanks
+    local words
+    read -ra words <<< "$2"
+    holds "$1" "${@:3}"
+    add "${words[@]}"
     ended
 }
+for trial in "calls few" facts "ways few" "sides few" text attempts fuzz "threads 0 10"; do
+    name=${trial%% *}
+    part tried "$name.c is linked with nissy.c" "$compiled/sanitized.$trial" linked gcc sanitized "$name" "${sanitized[@]:2}"
+done
+by_other() { # NAME COMPILER RUNNER TEST..: each number of an answer, by a processor of another width or byte order
+    local test
+    [ -e "$compiled/$1.o" ] || return
+    for test in "${@:4}"; do part tried "$test.c is linked with it for $1" "$3 $compiled/$1.$test few" linked "$2" "$1" "$test" -static; done
+}
+by_other i686 i686-linux-gnu-gcc "" calls facts ways sides text attempts
+missing qemu-s390x || by_other s390x s390x-linux-gnu-gcc qemu-s390x facts ways sides text attempts
+part tried "threads.c is linked with it for races" "$compiled/raced.threads 0 5" linked gcc raced threads -fsanitize=thread
 if missing g++; then skips "nissy.hpp over nissy.c, since there is no g++"; else
-    part by_headers "" gcc
-    part by_headers " byte by byte, which takes memory for copies" bytewise -DNISSY_BYTEWISE
+    part tried "nissy.cpp is linked with it" "$compiled/gcc.plus" in_c_plus_plus gcc
+    part tried "nissy.cpp is linked with it byte by byte, which takes memory for copies" "$compiled/bytewise.plus" in_c_plus_plus bytewise -DNISSY_BYTEWISE
 fi
-has_handlers() {
-    holds "handlers.c is linked with it" linked gcc gcc handlers
-    add "$compiled/gcc.handlers"
-    ended
-}
-part has_handlers
+part tried "handlers.c is linked with it" "$compiled/gcc.handlers" linked gcc gcc handlers
 parts_end
 [ -z "$wine" ] || [ -z "$server" ] || end_wine
 ended
