@@ -9,6 +9,7 @@ from . import _library
 from ._given import Text, bytes_of
 from ._lazily import Lazily
 from ._library import MOVES_PART, TEXT_LINE
+from ._values import value_of
 from ._written import WHITE, Cuts, PlainLine, TextPlace, Written, WrittenLine, written_by
 
 _BEFORE, SCRAMBLE, STEP, _NOTE = range(1, 5)
@@ -23,8 +24,6 @@ _BYTES = (0, 1, 2, 5)
 # it begins, where its head ends, and where its doubt is
 _NUMBERS, _ATTEMPT, _GROUP_AT, _BEGIN, _HEAD_END, _DOUBT_AT = TEXT_LINE.size // 8, 1, 2, 3, 4, 10
 _PART = MOVES_PART.size
-# the tuple's own way to make a value of its fields, which takes half the time of the class's
-_new = tuple.__new__
 # what makes one doubt a line, by the library's numbers
 _DOUBTS = (
     "",
@@ -154,7 +153,7 @@ class Reader:
     def lines(self, begin: int, end: int) -> List[TextLine]:
         """Returns those of the lines from one to another that aren't blank, or have only a head."""
         told = TEXT_LINE.iter_unpack(self._told[TEXT_LINE.size * begin : TEXT_LINE.size * end])
-        return [_new(TextLine, (at, *line)) for at, line in enumerate(told, begin) if line[0] or line[2]]
+        return [value_of(TextLine, (at, *line)) for at, line in enumerate(told, begin) if line[0] or line[2]]
 
     def _number(self, at: int, which: int) -> int:
         return self._numbers[_NUMBERS * at + which]
@@ -220,9 +219,9 @@ class Reader:
         headed = self._are_headed.find(1, begin, end)
         name = self.whole.words(self._begins[headed], self._head_ends[headed]) if headed >= 0 else ""
         if self._kinds.find(STEP, begin, end) < 0:
-            return _new(Attempt, (name, scramble, (), None, (), before, doubt))
+            return value_of(Attempt, (name, scramble, (), None, (), before, doubt))
         steps, solution, candidates = self._after_scramble(begin, end)
-        return _new(Attempt, (name, scramble, steps, solution, candidates, before, doubt))
+        return value_of(Attempt, (name, scramble, steps, solution, candidates, before, doubt))
 
     def _after_scramble(self, begin: int, end: int) -> _AfterScramble:
         """Returns the steps, the solution and the candidates of an attempt that has steps."""
@@ -238,7 +237,7 @@ class Reader:
 
     def doubt(self, number: int, byte: int) -> Optional[AttemptDoubt]:
         """Returns a doubt by the library's number, which is seen at a byte of the text."""
-        return _new(AttemptDoubt, (_DOUBTS[number], self.whole.place_of_byte(byte))) if number else None
+        return value_of(AttemptDoubt, (_DOUBTS[number], self.whole.place_of_byte(byte))) if number else None
 
     def doubt_among(self, begin: int, end: int) -> Optional[AttemptDoubt]:
         """Returns what makes one doubt the first line that is in doubt."""

@@ -8,10 +8,10 @@ from ._attempts import NOTHING, Attempt, AttemptDoubt, Reader
 from ._facts import Check, check_by_numbers
 from ._given import Text, bytes_of, each_of
 from ._lazily import Lazily
-from ._library import ATTEMPT_CHECK, DONE, FAULT, KNOWN_PART, MOST_INPUT
-from ._lines import fault_of, fault_text
+from ._library import ATTEMPT_CHECK, DONE, KNOWN_PART, MOST_INPUT
+from ._lines import fault_of
 from ._tokens import forms_of
-from ._values import Fault, LineFault
+from ._values import LineFault, value_of
 from ._written import PlainLine, TextPlace, Written, end_unless_made, string_of
 
 # the numbers of `nissy_attempt_check` of nissy_text.h
@@ -20,8 +20,6 @@ _Told = Tuple[Any, ...]
 _NONE, _A_PART = 2**64 - 1, 9
 # a text as long as that has as many bytes written of it and of its lines as are never too few
 _MOST_OF_BYTE, _PLACE = 6, 8
-# the tuple's own way to make a value of its fields, which takes half the time of the class's
-_new = tuple.__new__
 
 
 class FormInText(NamedTuple):
@@ -138,13 +136,15 @@ class _Checks:
             attempt = self._of_known(attempt, told)
         if status != DONE:
             place = None if fault_at == _NONE else self._whole.place_of_byte(fault_at)
-            return _new(AttemptCheck, (attempt, None, _fault(attempt, status, fault, column, line), place, (), None))
+            return value_of(
+                AttemptCheck, (attempt, None, _fault(attempt, status, fault, column, line), place, (), None)
+            )
         doubt = doubt if is_doubted else None
         if attempt.solution is None or not is_checked:
-            return _new(AttemptCheck, (attempt, None, None, None, (), doubt))
+            return value_of(AttemptCheck, (attempt, None, None, None, (), doubt))
         places = _forms_in(attempt.solution, self._whole) if forms else ()
         check = check_by_numbers(solved, moves, clean_moves, forms)
-        return _new(AttemptCheck, (attempt, check, None, None, places, doubt))
+        return value_of(AttemptCheck, (attempt, check, None, None, places, doubt))
 
     def _of_known(self, attempt: Attempt, told: _Told) -> Attempt:
         """Returns an attempt with the name of its part and its scramble, if that is known."""
@@ -158,11 +158,7 @@ class _Checks:
 def _fault(attempt: Attempt, status: int, fault: int, column: int, number: int) -> LineFault:
     """Returns the fault of the scramble or the solution. Raises Fault if it has too many bytes."""
     part, plain = ("scramble", attempt.scramble) if number == 1 else ("solution", attempt.solution or NOTHING)
-    if status == FAULT and plain.line.isascii():
-        # each byte is a character
-        made: Fault = LineFault(column, fault_text(fault), number, column)
-    else:
-        made = fault_of(status, fault, column, bytes_of(plain.line, ""), number)
+    made = fault_of(status, fault, column, bytes_of(plain.line, ""), number)
     made.part = part
     if isinstance(made, LineFault):
         return made
@@ -172,7 +168,7 @@ def _fault(attempt: Attempt, status: int, fault: int, column: int, number: int) 
 def _forms_in(solution: PlainLine, whole: Written) -> Tuple[FormInText, ...]:
     """Returns where a solution that was read has forms."""
     found = forms_of(solution.line)
-    return tuple([_new(FormInText, (text, forms, whole.place(solution.places[at]))) for text, forms, at in found])
+    return tuple([value_of(FormInText, (text, forms, whole.place(solution.places[at]))) for text, forms, at in found])
 
 
 def check_attempts(text: Text, *, scrambles: Optional[Iterable[Text]] = None) -> Sequence[AttemptCheck]:

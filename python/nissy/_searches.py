@@ -12,7 +12,7 @@ from ._lines import MOST_WORD, fault_of, fault_text, start_of
 from ._many import Asking, Piece, in_pieces, one_by_one
 from ._places import place_of
 from ._sides import Sides, sides_of, solve_sides
-from ._values import Count, Cut, Fault, Solution, Solutions, StartFault
+from ._values import Count, Cut, Fault, Solution, Solutions, StartFault, value_of
 
 MOST_TURNS = 20
 # A piece of solutions that are asked for one after another has this many at most, and is found by looks at this many
@@ -120,16 +120,17 @@ class _Search:
 
     def counts(self, partial: bool, piece: Piece, told: bytes) -> Iterable[Union[Count, Fault, Cut]]:
         """Returns the counts of a piece's lines, or why there are none."""
-        # the tuple's own way to make one takes half the time
-        size, new = SEARCH_ANSWER.size, tuple.__new__
+        size = SEARCH_ANSWER.size
         words = memoryview(told).cast("Q")
         found = words[_SOLUTIONS :: size // 8].tolist()
         # of most pieces: no line of Python is run for a count
         if told[::size].count(DONE) == len(found) and 0 not in found:
-            return map(new, repeat(Count), zip(told[_LEAST::size], found, words[_NODES :: size // 8], repeat(False)))
+            return map(
+                value_of, repeat(Count), zip(told[_LEAST::size], found, words[_NODES :: size // 8], repeat(False))
+            )
         answers = enumerate(SEARCH_ANSWER.iter_unpack(told))
         return [
-            new(Count, (least if found else None, found, nodes, False))
+            value_of(Count, (least if found else None, found, nodes, False))
             if not status
             else self._not_counted(partial, piece, at, (status, fault, least, column, found, nodes))
             for at, (status, fault, least, _, column, _, found, nodes) in answers

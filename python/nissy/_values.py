@@ -5,6 +5,8 @@ from typing import Any, Dict, Iterable, Iterator, List, NamedTuple, Optional, Tu
 
 Value = TypeVar("Value")
 AnyFault = TypeVar("AnyFault", bound="Fault")
+# the tuple's own way to make a value of its fields, which takes half the time of the class's
+value_of = tuple.__new__
 
 
 @dataclass(frozen=True)

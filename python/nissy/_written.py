@@ -7,7 +7,7 @@ from typing import Any, Callable, Iterable, List, NamedTuple, Optional, Sequence
 from . import _library, _rooms
 from ._given import Text, bytes_of, kind_of
 from ._tokens import FormPlace
-from ._values import Fault, LineFault
+from ._values import Fault, LineFault, value_of
 
 # what the library leaves out, by its bits, and what each number of them says
 _NAMES = ("labels", "numbers of moves", "comments", "line numbers", "commas", "signs that aren't seen")
@@ -23,8 +23,6 @@ WHITE = (
 )
 # bytes that a line may have in place of others
 _OWN = b" ()"
-# the tuple's own way to make a value of its fields, which takes half the time of the class's
-_new = tuple.__new__
 # 1 for each byte with which a sign begins, of a text in UTF-8
 _BEGINS = bytes(byte & 0xC0 != 0x80 for byte in range(256))
 
@@ -126,7 +124,7 @@ class Written:
         # between the two signs of a line's end the next line begins
         is_between = self._has_pairs and at > 0 and self.text[at - 1 : at + 1] == "\r\n"
         line = bisect_right(self._lines, at + is_between)
-        return _new(TextPlace, (at, line, at - self._lines[line - 1] + 1 or 1))
+        return value_of(TextPlace, (at, line, at - self._lines[line - 1] + 1 or 1))
 
     def _begins(self) -> List[int]:
         """Returns where each line begins."""
@@ -189,7 +187,7 @@ class Cuts:
         if self._counts is not None:
             begin, end = self._counts[begin], self._counts[end]
         line, places = self._signs
-        return _new(PlainLine, (line[begin:end], tuple(places[begin:end]), _LEFT_OUT[left_out]))
+        return value_of(PlainLine, (line[begin:end], tuple(places[begin:end]), _LEFT_OUT[left_out]))
 
 
 def plain_line(text: Text) -> PlainLine:
