@@ -6,7 +6,8 @@
 #ifndef NISSY_HPP
 #define NISSY_HPP
 
-#if __cplusplus < 201703L
+// Microsoft's compiler says its standard elsewhere
+#if __cplusplus < 201703L && (!defined(_MSVC_LANG) || _MSVC_LANG < 201703L)
 #error "nissy.hpp is for C++17 and later"
 #endif
 

@@ -74,6 +74,9 @@ compiled_by() { # COMPILER PROGRAM WORD..: compiles the test in C++, with these 
 tells_older() { # COMPILER
     "$1" -std=c++14 -Iinclude -fsyntax-only -x c++ include/nissy.hpp 2>&1 | head -n 1 | grep -q 'nissy.hpp:.*is for C++17'
 }
+asks_microsofts() { # COMPILER: what the header asks of the standard, by one that says an older one where others do
+    sed -n '/^#if .*_MSVC_LANG/,/^#endif/p' include/nissy.hpp | "$1" -std=c++14 -D_MSVC_LANG=201703L -fsyntax-only -x c++ -
+}
 read_strictly() { # COMPILER: callers have warnings of their own, and no header is one of the system
     local header more=(-Wconversion -Wsign-conversion -Wshadow -Wold-style-cast -Wcast-qual -Wundef)
     [ "$1" = clang++ ] || more+=(-Wuseless-cast)
@@ -87,6 +90,7 @@ by_compiler() { # COMPILER STANDARD OTHER
     # named beside an empty file, since not all of its functions are called in it
     holds "so is nissy_forms.h, by $compiler" "$compiler" -std=c++98 "${strict[@]}" -include nissy_forms.h -x c++ -fsyntax-only /dev/null
     holds "nissy.hpp tells C++14 that it is for C++17, by $compiler" tells_older "$compiler"
+    holds "and reads the standard of Microsoft's compiler, as $compiler sees it" asks_microsofts "$compiler"
     holds "each header is read without further warnings, by $compiler" read_strictly "$compiler"
     holds "nissy.cpp compiles as $2 by $compiler" compiled_by "$compiler" "$made/$compiler" "-std=$2"
     add "$made/$compiler"

@@ -3,6 +3,7 @@ from __future__ import annotations
 
 import ctypes
 import os
+import sys
 import threading
 from typing import Any, Dict, Optional
 
@@ -48,7 +49,9 @@ def _renew_locks() -> None:
         place.lock = threading.RLock()
 
 
-os.register_at_fork(after_in_child=_renew_locks)
+# Windows forks nothing
+if sys.platform != "win32":
+    os.register_at_fork(after_in_child=_renew_locks)
 
 
 def place_of(step: Step) -> Place:

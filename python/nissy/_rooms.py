@@ -3,6 +3,7 @@ from __future__ import annotations
 
 import ctypes
 import mmap
+import sys
 from typing import List
 
 ORDINARY = 1 << 20
@@ -14,6 +15,14 @@ _MOST_KEPT = 16
 _kept: List[Room] = []
 
 
+def _memory(size: int) -> mmap.mmap:
+    """Returns new memory, which only this process has."""
+    if sys.platform == "win32":
+        return mmap.mmap(-1, size)
+    # private, since a forked child shares the other kind with its parent
+    return mmap.mmap(-1, size, flags=mmap.MAP_PRIVATE | mmap.MAP_ANONYMOUS)
+
+
 class Room:
     """Memory of this many bytes. The system gives a page of it when that is first written to, so a large
     one costs what stands in it."""
@@ -22,8 +31,7 @@ class Room:
 
     def __init__(self, size: int) -> None:
         try:
-            # private, since a forked child shares the other kind with its parent
-            self.memory = mmap.mmap(-1, max(size, 1), flags=mmap.MAP_PRIVATE | mmap.MAP_ANONYMOUS)
+            self.memory = _memory(max(size, 1))
         except (OSError, OverflowError):
             raise MemoryError(f"no room for {size:,} bytes of output") from None
         self.size = size

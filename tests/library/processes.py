@@ -145,6 +145,17 @@ with getattr(threading, "_shutdown_locks_lock", threading.Lock()): gc.collect()
 print(nissy.count("eofb", "R").solutions)
 """
 
+# a Python of Windows, which forks nothing, has less in its modules
+WINDOWS = """
+import ctypes, mmap, os, sys, threading
+import nissy._library
+del os.register_at_fork, mmap.MAP_PRIVATE, mmap.MAP_ANONYMOUS
+for name in [name for name in sys.modules if name.split(".")[0] == "nissy"]: del sys.modules[name]
+sys.platform = "win32"
+import nissy
+print(nissy.solve("eofb", "F"), len(nissy.solve("eofb", "", 5, 20)), nissy.check_attempts("R\\n\\nR'")[0].check.solved)
+"""
+
 # lets a process have so many bytes more, and says what a call without memory says
 LIMITED = """
 import resource
@@ -274,6 +285,7 @@ def processes(tally: Tally) -> None:
     )
     tally.equal("Ctrl-C among many lines", of_process(INTERRUPTED), "True True 1\n")
     tally.equal("an iterator that is left", of_process(LEFT), "1\n")
+    tally.equal("what Windows hasn't isn't asked for", of_process(WINDOWS), "['F', \"F'\"] 148176 True\n")
     tally.equal("the tables of all steps take some 15 million bytes, once", of_process(MEMORY), "True True\n")
     tally.equal(
         "no memory for tables",
@@ -360,9 +372,11 @@ def types(tally: Tally) -> None:
         return done.stdout + done.stderr
 
     with tempfile.TemporaryDirectory() as folder:
-        for version in ("3.7", "3.11"):
+        for version, system in (("3.7", "linux"), ("3.11", "linux"), ("3.11", "win32"), ("3.11", "darwin")):
             tally.equal(
-                f"the package by Python {version}", complaints(folder, "--python-version", version, "-p", "nissy"), ""
+                f"the package by Python {version} of {system}",
+                complaints(folder, "--python-version", version, "--platform", system, "-p", "nissy"),
+                "",
             )
         Path(folder, "user.py").write_text(USER)
         tally.equal("a user of it", complaints(folder, "user.py"), "")
