@@ -2,7 +2,7 @@
 candidates beside it. Nothing of it is called at fault here: what is no line of moves is at fault where it is used."""
 import ctypes
 from itertools import accumulate, groupby
-from operator import attrgetter, ne
+from operator import ne
 from typing import Any, Callable, Dict, Iterator, List, NamedTuple, Optional, Sequence, Tuple
 
 from . import _library
@@ -17,13 +17,13 @@ _BEFORE, SCRAMBLE, STEP, _NOTE = range(1, 5)
 _OF_SCRAMBLE, _OF_STEPS = range(2)
 # 1 for each kind of line whose moves these are
 _IS_OF_SCRAMBLE, _IS_STEP = (bytes(kind == wanted for kind in range(256)) for wanted in (SCRAMBLE, STEP))
-_GROUP = attrgetter("group")
-# the bytes of a line that say what it is, whether it is of the solution, whether it has a head, and what its doubt is
-_BYTES = (0, 1, 2, 5)
-# of the numbers of eight bytes that a line is, how many there are, and which of them say its attempt, its group, where
-# it begins, where its head ends, and where its doubt is
-_NUMBERS, _ATTEMPT, _GROUP_AT, _BEGIN, _HEAD_END, _DOUBT_AT = TEXT_LINE.size // 8, 1, 2, 3, 4, 10
-_PART = MOVES_PART.size
+# the bytes of a line that say what it is, whether it is of the solution, whether it has a head, whether its label says
+# that the solution follows, and what its doubt is
+_BYTES = (0, 1, 2, 3, 5)
+# how many numbers of eight bytes a line is, of which the first has those bytes, and the others in their order
+_NUMBERS = TEXT_LINE.size // 8
+_ATTEMPT, _GROUP, _BEGIN, _HEAD_END, _LABEL_BEGIN, _LABEL_END, _MOVES, _COMMENT, _END, _DOUBT_AT = range(1, _NUMBERS)
+_PART, _LEFT_OUT_AT = MOVES_PART.size, 16
 # what makes one doubt a line, by the library's numbers
 _DOUBTS = (
     "",
@@ -88,46 +88,26 @@ _NONE: _Joined = ((), NOTHING)
 _AfterScramble = Tuple[Tuple[PlainLine, ...], Optional[PlainLine], Tuple[AttemptCandidate, ...]]
 
 
-class TextLine(NamedTuple):
-    """`nissy_text_line` of nissy_text.h, and which line of the text it is, from 0."""
-
-    at: int
-    kind: int
-    is_solution: bool
-    is_headed: bool
-    says_solution: bool
-    is_inverse: bool
-    doubt: int
-    attempt: int
-    group: int
-    begin: int
-    head_end: int
-    label_begin: int
-    label_end: int
-    moves: int
-    comment: int
-    end: int
-    doubt_at: int
-
-
 class Moves:
     """The moves of those lines of a text that are wanted, written one after another."""
 
-    def __init__(self, whole: Written, written: WrittenLine, nth: Sequence[int], parts: bytearray) -> None:
-        # how many lines before each one of the text are wanted, and where their moves stand, with the library's number
-        # for what each leaves out
-        self._nth, self._parts, self._cut = nth, parts, Cuts(whole, written).cut
+    def __init__(self, whole: Written, written: WrittenLine, nth: Sequence[int], parts: bytes) -> None:
+        # how many lines before each one of the text are wanted
+        self._nth = nth
+        # where the moves of each of them stand, with the library's number for what it leaves out
+        numbers = memoryview(parts).cast("Q")
+        self._begins, self._ends = (numbers[at :: _PART // 8].tolist() for at in range(2))
+        self._left_out, self._cut = parts[_LEFT_OUT_AT::_PART], Cuts(whole, written).cut
 
     def of(self, begin: int, end: int) -> PlainLine:
         """Returns the moves of the lines from one to another as one line."""
         first, last = self._nth[begin], self._nth[end]
         if first == last:
             return NOTHING
-        start, stop, left_out = MOVES_PART.unpack_from(self._parts, _PART * first)
-        for nth in range(first + 1, last):
-            _, stop, more = MOVES_PART.unpack_from(self._parts, _PART * nth)
+        left_out = self._left_out[first]
+        for more in self._left_out[first + 1 : last]:
             left_out |= more
-        return self._cut(start, stop, left_out)
+        return self._cut(self._begins[first], self._ends[last - 1], left_out)
 
 
 class Reader:
@@ -142,21 +122,18 @@ class Reader:
         self.answer = tell(self.data, len(self.data), self.address, most)
         self.count = self.answer.lines
         self._told = memoryview(self._room)[: TEXT_LINE.size * self.count]
-        self._kinds, self._are_solution, self._are_headed, self._doubts = (
+        self._kinds, self._are_solution, self._are_headed, self._are_labelled, self._doubts = (
             bytes(self._told[at :: TEXT_LINE.size]) for at in _BYTES
         )
         self._numbers = self._told.cast("Q")
-        self._begins, self._head_ends = (self._numbers[at::_NUMBERS] for at in (_BEGIN, _HEAD_END))
+        self._group = self._numbers[_GROUP::_NUMBERS].__getitem__
         # by whose they are
         self._moves: Dict[int, Moves] = {}
 
-    def lines(self, begin: int, end: int) -> List[TextLine]:
-        """Returns those of the lines from one to another that aren't blank, or have only a head."""
-        told = TEXT_LINE.iter_unpack(self._told[TEXT_LINE.size * begin : TEXT_LINE.size * end])
-        return [value_of(TextLine, (at, *line)) for at, line in enumerate(told, begin) if line[0] or line[2]]
-
-    def _number(self, at: int, which: int) -> int:
-        return self._numbers[_NUMBERS * at + which]
+    def _words(self, line: int, begin: int, end: int) -> str:
+        """Returns what stands in a line from one of its places to another."""
+        first = _NUMBERS * line
+        return self.whole.words(self._numbers[first + begin], self._numbers[first + end])
 
     def attempts(self) -> List[Tuple[int, int]]:
         """Returns from which line to which each attempt reaches that has a scramble."""
@@ -169,7 +146,7 @@ class Reader:
         """Returns the moves of all lines that are wanted."""
         if which not in self._moves:
             nth = [0, *accumulate(self._kinds.translate(_IS_OF_SCRAMBLE if which == _OF_SCRAMBLE else _IS_STEP))]
-            room = bytearray(_PART * nth[-1] + 1)
+            room = bytearray(_PART * nth[-1] or 1)
             parts = (ctypes.addressof(ctypes.c_char.from_buffer(room)), nth[-1])
             written = written_by(
                 3 * (len(self.data) + self.count),
@@ -177,18 +154,20 @@ class Reader:
                     self.data, len(self.data), self.address, self.count, which, *rooms, *parts
                 ),
             )
-            self._moves[which] = Moves(self.whole, written, nth, room)
+            self._moves[which] = Moves(self.whole, written, nth, bytes(room[: _PART * nth[-1]]))
         return self._moves[which]
 
-    def _note(self, line: TextLine) -> str:
+    def _note(self, line: int) -> str:
         """Returns what a line without moves says: its label, if nothing follows that, else all of it."""
-        if line.label_begin < line.label_end and not self.whole.words(line.moves, line.end):
+        first = _NUMBERS * line
+        is_labelled = self._numbers[first + _LABEL_BEGIN] < self._numbers[first + _LABEL_END]
+        if is_labelled and not self._words(line, _MOVES, _END):
             return self._label(line)
-        said = self.whole.words(line.head_end, line.end)
+        said = self._words(line, _HEAD_END, _END)
         return said[2:].strip(WHITE) if said.startswith("//") else said
 
-    def _label(self, line: TextLine) -> str:
-        return self.whole.words(line.label_begin, line.label_end)
+    def _label(self, line: int) -> str:
+        return self._words(line, _LABEL_BEGIN, _LABEL_END)
 
     def _steps(self, lines: Sequence[int]) -> Tuple[PlainLine, ...]:
         moves = self.moves(_OF_STEPS)
@@ -199,41 +178,55 @@ class Reader:
         steps = self._steps(lines)
         return steps, steps[0] if len(steps) == 1 else self.moves(_OF_STEPS).of(lines[0], lines[-1] + 1)
 
-    def _candidates(self, lines: Sequence[TextLine], made: _Joined, told: Sequence[int]) -> Iterator[AttemptCandidate]:
+    def _candidates(
+        self, begin: int, end: int, steps: Sequence[int], told: Sequence[int], made: _Joined
+    ) -> Iterator[AttemptCandidate]:
         """Returns the groups of an attempt that have steps, but the first one. What is made already is of the steps
         that are told."""
-        for number, group in groupby((line for line in lines if line.kind >= STEP), _GROUP):
-            own = list(group)
-            at = [line.at for line in own if line.kind == STEP]
-            if number > 0 and at:
-                note = " ".join([self._note(line) for line in own if line.kind == _NOTE])
-                label = next((self._label(line) for line in own if line.says_solution), "")
-                steps, solution = made if at == told else self._joined(at)
-                yield AttemptCandidate(steps, solution, note or label)
+        groups = [(group, [*lines]) for group, lines in groupby(steps, self._group)]
+        # a group's other lines are between the steps of the groups before it and after it
+        ends = [*(lines[0] for _, lines in groups[1:]), end]
+        for (group, own), behind in zip(groups, ends):
+            if group > 0:
+                every, solution = made if own == told else self._joined(own)
+                yield value_of(AttemptCandidate, (every, solution, self._said_of(group, begin, behind)))
+            begin = own[-1]
 
-    def attempt(self, begin: int, end: int, doubt: Optional[AttemptDoubt]) -> Attempt:
-        """Returns the attempt that the lines from one to another are, which is in this doubt."""
-        moves = self._moves.get(_OF_SCRAMBLE) or self.moves(_OF_SCRAMBLE)
-        scramble, before = moves.of(begin, end), self._kinds.count(_BEFORE, begin, end)
-        # the first head
-        headed = self._are_headed.find(1, begin, end)
-        name = self.whole.words(self._begins[headed], self._head_ends[headed]) if headed >= 0 else ""
-        if self._kinds.find(STEP, begin, end) < 0:
-            return value_of(Attempt, (name, scramble, (), None, (), before, doubt))
-        steps, solution, candidates = self._after_scramble(begin, end)
-        return value_of(Attempt, (name, scramble, steps, solution, candidates, before, doubt))
+    def _said_of(self, group: int, begin: int, end: int) -> str:
+        """Returns what is said of a group on lines of its own among some, else its label that says that the solution
+        follows."""
+        kinds, are_labelled = self._kinds, self._are_labelled
+        if kinds.find(_NOTE, begin, end) < 0 and are_labelled.find(1, begin, end) < 0:
+            return ""
+        own = [at for at in range(begin, end) if kinds[at] >= STEP and self._group(at) == group]
+        note = " ".join([self._note(at) for at in own if kinds[at] == _NOTE])
+        return note or next((self._label(at) for at in own if are_labelled[at]), "")
 
     def _after_scramble(self, begin: int, end: int) -> _AfterScramble:
         """Returns the steps, the solution and the candidates of an attempt that has steps."""
         kinds, are_solution = self._kinds, self._are_solution
         every = [at for at in range(begin, end) if kinds[at] == STEP]
         told = [at for at in every if are_solution[at]]
-        has_groups = self._number(every[-1], _GROUP_AT) > 0
-        under = [at for at in every if self._number(at, _GROUP_AT) == 0] if has_groups else every
+        has_groups = self._group(every[-1]) > 0
+        under = [at for at in every if self._group(at) == 0] if has_groups else every
         made = self._joined(told) if told else _NONE
         steps = made[0] if not under or under == told else self._steps(under)
-        candidates = tuple(self._candidates(self.lines(begin, end), made, told)) if has_groups else ()
+        candidates = tuple(self._candidates(begin, end, every, told, made)) if has_groups else ()
         return steps, made[1] if told else None, candidates
+
+    def attempt(self, begin: int, end: int, doubt: Optional[AttemptDoubt]) -> Attempt:
+        """Returns the attempt that the lines from one to another are, which is in this doubt."""
+        moves = self._moves.get(_OF_SCRAMBLE) or self.moves(_OF_SCRAMBLE)
+        scramble, before = moves.of(begin, end), self._kinds.count(_BEFORE, begin, end)
+        # the first head
+        headed, name = self._are_headed.find(1, begin, end), ""
+        if headed >= 0:
+            first = _NUMBERS * headed
+            name = self.whole.words(self._numbers[first + _BEGIN], self._numbers[first + _HEAD_END])
+        if self._kinds.find(STEP, begin, end) < 0:
+            return value_of(Attempt, (name, scramble, (), None, (), before, doubt))
+        steps, solution, candidates = self._after_scramble(begin, end)
+        return value_of(Attempt, (name, scramble, steps, solution, candidates, before, doubt))
 
     def doubt(self, number: int, byte: int) -> Optional[AttemptDoubt]:
         """Returns a doubt by the library's number, which is seen at a byte of the text."""
@@ -242,7 +235,7 @@ class Reader:
     def doubt_among(self, begin: int, end: int) -> Optional[AttemptDoubt]:
         """Returns what makes one doubt the first line that is in doubt."""
         doubts = self._doubts[begin:end].lstrip(b"\0")
-        return self.doubt(doubts[0], self._number(end - len(doubts), _DOUBT_AT)) if doubts else None
+        return self.doubt(doubts[0], self._numbers[_NUMBERS * (end - len(doubts)) + _DOUBT_AT]) if doubts else None
 
 
 def read_attempts(text: Text) -> Sequence[Attempt]:

@@ -8,10 +8,10 @@ from ._attempts import NOTHING, Attempt, AttemptDoubt, Reader
 from ._facts import Check, check_by_numbers
 from ._given import Text, bytes_of, each_of
 from ._lazily import Lazily
-from ._library import ATTEMPT_CHECK, DONE, KNOWN_PART, MOST_INPUT
-from ._lines import fault_of
+from ._library import ATTEMPT_CHECK, DONE, FAULT, KNOWN_PART, MOST_INPUT
+from ._lines import fault_of, fault_text
 from ._tokens import forms_of
-from ._values import LineFault, value_of
+from ._values import Fault, LineFault, value_of
 from ._written import PlainLine, TextPlace, Written, end_unless_made, string_of
 
 # the numbers of `nissy_attempt_check` of nissy_text.h
@@ -158,7 +158,12 @@ class _Checks:
 def _fault(attempt: Attempt, status: int, fault: int, column: int, number: int) -> LineFault:
     """Returns the fault of the scramble or the solution. Raises Fault if it has too many bytes."""
     part, plain = ("scramble", attempt.scramble) if number == 1 else ("solution", attempt.solution or NOTHING)
-    made = fault_of(status, fault, column, bytes_of(plain.line, ""), number)
+    line = plain.line
+    if status == FAULT and line.isascii():
+        # most are, and there may be many
+        made: Fault = LineFault(column, fault_text(fault), number)
+    else:
+        made = fault_of(status, fault, column, bytes_of(line, ""), number)
     made.part = part
     if isinstance(made, LineFault):
         return made
@@ -167,8 +172,9 @@ def _fault(attempt: Attempt, status: int, fault: int, column: int, number: int) 
 
 def _forms_in(solution: PlainLine, whole: Written) -> Tuple[FormInText, ...]:
     """Returns where a solution that was read has forms."""
+    places, place = solution.places, whole.place
     found = forms_of(solution.line)
-    return tuple([value_of(FormInText, (text, forms, whole.place(solution.places[at]))) for text, forms, at in found])
+    return tuple([value_of(FormInText, (text, forms, place(places[at]))) for text, forms, at in found])
 
 
 def check_attempts(text: Text, *, scrambles: Optional[Iterable[Text]] = None) -> Sequence[AttemptCheck]:

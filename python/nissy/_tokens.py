@@ -16,6 +16,8 @@ else:
 
 # a bracket, or a move: its letters, and what follows them; the line was read by the library before
 _ITEM = re.compile("([()])|([UDRLFB]w?|[udrlfbMESxyz])(2?['\u2019]|2)?")
+# the same as it stands there, which is found sooner
+_WHOLE_ITEM = re.compile("[()]|(?:[UDRLFB]w?|[udrlfbMESxyz])(?:2?['\u2019]|2)?")
 _QUARTERS = {"": 1, "2": 2, "'": -1, "\u2019": -1, "2'": 2, "2\u2019": 2}
 _APOSTROPHE = "\u2019"
 _SUFFIXES = {1: "", 2: "2", -1: "'"}
@@ -115,7 +117,7 @@ def form_places(line: Text) -> List[FormPlace]:
 def forms_of(text: str) -> Iterator[Tuple[str, Tuple[str, ...], int]]:
     """Yields each move and bracket that has forms, of a line that the library has read, with these and its place, from
     0."""
-    for it in _ITEM.finditer(text):
+    for it in _WHOLE_ITEM.finditer(text):
         item = it.group()
         forms = _forms_of(item)
         if forms:

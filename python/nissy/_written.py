@@ -119,12 +119,10 @@ class Written:
 
     def place(self, at: int) -> TextPlace:
         """Returns the place of a character. Lines are looked for once."""
-        if not self._lines:
-            self._lines = self._begins()
+        begins = self._lines = self._lines or self._begins()
         # between the two signs of a line's end the next line begins
-        is_between = self._has_pairs and at > 0 and self.text[at - 1 : at + 1] == "\r\n"
-        line = bisect_right(self._lines, at + is_between)
-        return value_of(TextPlace, (at, line, at - self._lines[line - 1] + 1 or 1))
+        line = bisect_right(begins, at + 1 if self._has_pairs and self.text[at - 1 : at + 1] == "\r\n" else at)
+        return value_of(TextPlace, (at, line, at - begins[line - 1] + 1 or 1))
 
     def _begins(self) -> List[int]:
         """Returns where each line begins."""

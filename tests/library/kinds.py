@@ -164,7 +164,7 @@ def calls(tally: Tally) -> None:
     """What is told of an attempt takes few calls, into which most of the time of short ones goes."""
     most = {
         "1. R Q\n": 12,
-        "1. R U F\n\nF\u2019 U\u2019 R\u2019\n\n": 55,
+        "1. R U F\n\nF\u2019 U\u2019 R\u2019\n\n": 35,
         "1. R U F\nR' U' // inverse\nF // EO\n\n": 40,
         f"{FIRST}\n{OF_FIRST} R\n": 20,
     }

@@ -8,9 +8,8 @@ import { Engine } from "./engine/engine.js";
 import type { Calls } from "./calls/calls.js";
 import type { ModuleSource } from "./engine/source.js";
 
-export type {
-  Answer, AttemptCheck, Best, Count, SideSolutions, Solution, Solutions,
-} from "./calls/replies.js";
+export type { Answer, Best, Count, SideSolutions, Solution, Solutions } from "./calls/replies.js";
+export type { AttemptCheck } from "./text/attempt-checks.js";
 export type { Attempt } from "./text/attempts.js";
 export type { Axis, Check, CornerPlace, EdgePlace, Facts, Form } from "./shared/facts.js";
 export type { BestRow } from "./shared/ways.js";

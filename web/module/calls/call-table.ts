@@ -1,15 +1,16 @@
 // The table of the calls: of each how many arguments come before its options, what is asked for them, and how the reply
 // is read. All that have these calls take them from here: a row more is a call more.
 import { LINES, PAIRS_OF_LINES, ToldLines, allRequest, type ReadOne } from "./many.js";
-import {
-  attemptChecksIn, bestIn, checkIn, countIn, factsIn, lineAfterIn, lineIn, outputLinesIn, solutionsIn,
-} from "./replies.js";
+import { bestIn, checkIn, countIn, factsIn, lineAfterIn, lineIn, outputLinesIn, solutionsIn } from "./replies.js";
 import {
   bestRequest, checkRequest, checksRequest, countRequest, lineAfterRequest, lineRequest, listRequest, optionOf,
   runRequest, scrambleRequest, scramblesRequest, textRequest, type OfEach, type Request, type Rewriting,
 } from "./requests.js";
 import { asString } from "../shared/bytes.js";
+import { attemptChecksIn } from "../text/attempt-checks.js";
+import { attemptsIn } from "../text/attempts.js";
 import { formPlacesOf, tokensOf } from "../text/tokens.js";
+import { plainIn } from "../text/written.js";
 import type { Calls } from "./calls.js";
 
 /** `options`: the names of its own; of many lines each reply is read by `one`; `isFollowed`: one reply may take so long
@@ -25,6 +26,9 @@ export type Row = {
 
 const rewriting = (call: Rewriting, read: Row["read"] = lineIn): Row =>
   ({ takes: 1, request: (line) => lineRequest(call, line), read });
+
+const reading = (call: "plainLine" | "readAttempts", read: (told: any, text: string) => unknown): Row =>
+  ({ takes: 1, request: (text) => textRequest(call, text), read: (told, { text }) => read(told, text) });
 
 const OF_COUNTS = ["limit", "slack", "most", "nodes", "cut"];
 const OF_LISTS = [...OF_COUNTS, "sides"];
@@ -61,8 +65,8 @@ export const TABLE: Record<Exclude<keyof Calls<"now">, "solutions">, Row> = {
   factsAll: many(1, [], () => lineRequest("facts", ""), factsIn),
   check: { takes: 2, request: checkRequest, read: checkIn },
   checkAll: many(1, [], () => checkRequest("", ""), checkIn, PAIRS_OF_LINES),
-  plainLine: { takes: 1, request: (text) => textRequest("plainLine", text), read: (reply) => reply },
-  readAttempts: { takes: 1, request: (text) => textRequest("readAttempts", text), read: (reply) => reply },
+  plainLine: reading("plainLine", plainIn),
+  readAttempts: reading("readAttempts", attemptsIn),
   checkAttempts: { takes: 1, options: ["scrambles"], request: checksRequest, read: attemptChecksIn },
   lineAfter: { takes: 2, request: lineAfterRequest, read: lineAfterIn },
   best: { takes: 1, options: OF_BEST, request: bestRequest, read: bestIn, isFollowed: true },

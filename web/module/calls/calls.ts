@@ -1,4 +1,5 @@
 // The calls, as a caller has them: what each takes and tells, at once or later by a worker or several.
+import type { AttemptCheck } from "../text/attempt-checks.js";
 import type { Attempt } from "../text/attempts.js";
 import type { Check, Facts } from "../shared/facts.js";
 import type { FormPlace, Token } from "../text/tokens.js";
@@ -6,7 +7,7 @@ import type { PlainLine } from "../text/written.js";
 import type { StepName } from "../shared/steps.js";
 import type { Text } from "../shared/bytes.js";
 import type { Many, OnFaults, Told } from "./many.js";
-import type { Answer, AttemptCheck, Best, Count, Solution, SolutionsOn } from "./replies.js";
+import type { Answer, Best, Count, Solution, SolutionsOn } from "./replies.js";
 import type { BestWanted, Known, OnSides, Sides, Wanted } from "./requests.js";
 import type { Followed, Stoppable } from "./signals.js";
 

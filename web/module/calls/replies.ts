@@ -1,15 +1,12 @@
 // Reads what the engine writes as values, or throws what is wrong.
 import { AXES, CORNER_PLACES, EDGE_PLACES, FORMS, type Check, type Facts } from "../shared/facts.js";
-import { NissyFault, SearchCut, withoutTraces } from "../shared/faults.js";
+import { NissyFault, SearchCut } from "../shared/faults.js";
 import { AXIS_FACTS, CHECK_ANSWER, FACTS_ANSWER, SEARCH_ANSWER } from "../shared/layout.js";
 import { START_FAULT, STATUS, hasValue } from "../shared/structs.js";
 import { STEPS } from "../shared/steps.js";
 import { textIn } from "../shared/bytes.js";
 import { bothSidesIn, waysIn, type BestRow, type BestStep } from "../shared/ways.js";
-import type { Attempt, AttemptDoubt } from "../text/attempts.js";
-import type { FormInText, SeenAttempt } from "../text/attempt-checks.js";
 import type { Sides, Telling } from "./requests.js";
-import type { TextPlace } from "../text/written.js";
 
 /** What a run returns: the exit status of the program, 0 to 3, its output, and its error text; `full`: whether the
  * output was longer than the greatest room for it, and `out` is a beginning of it. */
@@ -56,29 +53,16 @@ export type BestReply = FoundWays & { status: 0 | 5 } | OfTwo;
  * then these are the best of what was tried until then. */
 export type Best = BestRow[] & { nodes: number; cut?: true };
 
-/** An attempt of a text. `check` is null if it has no solution, or if a part is at fault: `fault` says so, its `part`
- * says which, and `place` where in the text; both are null of an attempt without a fault. `forms` are those of a
- * solution that was checked. `doubt` tells why an attempt may be read otherwise than it was meant, and is null if it is
- * solved, has a fault, or is in none. */
-export type AttemptCheck = {
-  attempt: Attempt;
-  check: Check | null;
-  fault: NissyFault | null;
-  place: TextPlace | null;
-  forms: FormInText[];
-  doubt: AttemptDoubt | null;
-};
-
 /** To one line or more of a call, but for runs. */
 export type OneReply = Answer | LineReply | Seen | SolveReply | FoundParts | BestReply | OfTwo;
 
-const NAMES_OF_CHECK = ["scramble", "solution"];
+export const NAMES_OF_CHECK = ["scramble", "solution"];
 const NAMES_OF_BEST = ["scramble", "moves so far"];
 
 const BRACKET = "(".charCodeAt(0);
 const ZERO = "0".charCodeAt(0);
 
-function errorIn(reply: NoValue & { line?: number }, names: readonly string[]): Error {
+export function errorIn(reply: NoValue & { line?: number }, names: readonly string[]): Error {
   const part = names[Number(reply.line) - 1] ?? "";
   switch (reply.status) {
     case STATUS.fault:
@@ -198,7 +182,7 @@ function factsFrom({ answer: bytes, at }: Seen): Facts {
   };
 }
 
-const checkFrom = ({ answer: bytes, at }: Seen): Check => ({
+export const checkFrom = ({ answer: bytes, at }: Seen): Check => ({
   solved: CHECK_ANSWER.read.solved(bytes, at) === 1,
   moves: CHECK_ANSWER.read.moves(bytes, at),
   cleanMoves: CHECK_ANSWER.read.cleanMoves(bytes, at),
@@ -207,22 +191,6 @@ const checkFrom = ({ answer: bytes, at }: Seen): Check => ({
 
 export const factsIn = (reply: Seen | NoValue): Facts => factsFrom(withValue(reply));
 export const checkIn = (reply: Seen | OfTwo): Check => checkFrom(withValue(reply, NAMES_OF_CHECK));
-
-function attemptCheckIn({ attempt, seen, place, forms, doubt }: SeenAttempt): AttemptCheck {
-  const told: AttemptCheck = { attempt, place, forms, doubt, check: null, fault: null };
-  if (seen === null) return told;
-  if ("answer" in seen) {
-    told.check = checkFrom(seen);
-    return told;
-  }
-  const error = errorIn(seen, NAMES_OF_CHECK);
-  if (!(error instanceof NissyFault)) throw error;
-  told.fault = error;
-  return told;
-}
-
-export const attemptChecksIn = (replies: SeenAttempt[]): AttemptCheck[] =>
-  withoutTraces(() => replies.map(attemptCheckIn));
 
 export const lineAfterIn = (reply: LineReply | OfTwo): string => withValue(reply, NAMES_OF_BEST).out;
 

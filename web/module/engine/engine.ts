@@ -1,24 +1,21 @@
 // The engine: requests are answered by an instance of the module, and by another one after a call that broke off.
-import { seenAttempts, type SeenAttempt } from "../text/attempt-checks.js";
-import { attemptsIn, type Attempt } from "../text/attempts.js";
-import { TextCalls } from "../text/text-calls.js";
-import { WrittenText, type PlainLine } from "../text/written.js";
+import { TextCalls, type ToldText } from "../text/text-calls.js";
 import { EngineMissing } from "../shared/faults.js";
+import { START_FAULT } from "../shared/structs.js";
 import { bestOf } from "./best-search.js";
 import { Instance } from "./instance.js";
-import { checked, counted, factsOf, lineAfterOf, rewritten, runIn, solved, written } from "./line-calls.js";
+import { checked, counted, factsOf, faultText, lineAfterOf, rewritten, runIn, solved, written } from "./line-calls.js";
 import { answerAll } from "./many-lines.js";
 import { countedOverSides, solvedOverSides } from "./over-sides.js";
 import { compiled, type ModuleSource } from "./source.js";
 import type { CountOfSides, OneReply } from "../calls/replies.js";
 import type { Request, RequestOf } from "../calls/requests.js";
 import type { Follow } from "../calls/signals.js";
+import type { WrittenLine } from "../text/written.js";
 
-type Reply = OneReply | CountOfSides | PlainLine | Attempt[] | SeenAttempt[];
+type Reply = OneReply | CountOfSides | WrittenLine | ToldText;
 type OneCall = Exclude<Request["call"], "all">;
 type Answer<Call extends OneCall> = (instance: Instance, request: RequestOf<Call>, tell: Follow) => Reply;
-
-const callsOn = (instance: Instance, { text }: { text: string }) => new TextCalls(instance, new WrittenText(text));
 
 const REPLIES: { [Call in OneCall]: Answer<Call> } = {
   invert: (instance, { line }) => rewritten(instance, "nissy_invert", line),
@@ -36,9 +33,12 @@ const REPLIES: { [Call in OneCall]: Answer<Call> } = {
   scramble: (instance, { state, stream, length }) => written(instance, "nissy_scramble", [state, stream, length]),
   steps: (instance) => written(instance, "nissy_steps", []),
   run: runIn,
-  plainLine: (instance, request) => callsOn(instance, request).plain(),
-  readAttempts: (instance, request) => attemptsIn(callsOn(instance, request)),
-  checkAttempts: (instance, request) => seenAttempts(instance, callsOn(instance, request), request.scrambles),
+  plainLine: (instance, { text }) => new TextCalls(instance, text).plain(),
+  readAttempts: (instance, { text }) => new TextCalls(instance, text).read(),
+  checkAttempts: (instance, { text, scrambles }) => ({
+    ...new TextCalls(instance, text).checked(scrambles),
+    faults: Array.from({ length: START_FAULT }, (_, fault) => faultText(instance, fault)),
+  }),
 };
 
 const answerOf = (call: OneCall) => REPLIES[call] as Answer<any>;

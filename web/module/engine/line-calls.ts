@@ -19,6 +19,8 @@ const outOf = (reply: LineReply): string => (reply.status === STATUS.done ? repl
 
 /** The words for each fault by its number, which each module has alike: it is asked for them once. */
 const faultTexts: string[] = [];
+export const faultText = (instance: Instance, fault: number): string =>
+  (faultTexts[fault] ??= outOf(written(instance, "nissy_fault_text", [fault])));
 
 /** Why a call on a line has no value. The module is asked for the words, so its answer is read before. */
 export function refusal(
@@ -26,7 +28,7 @@ export function refusal(
 ): NoValue {
   const [status, fault, column] = [HEAD.read.status, HEAD.read.fault, HEAD.read.column].map((read) => read(bytes, at));
   if (status !== STATUS.fault) return { status } as NoValue;
-  const text = (faultTexts[fault] ??= outOf(written(instance, "nissy_fault_text", [fault])));
+  const text = faultText(instance, fault);
   if (fault === START_FAULT) {
     return { status, fault, step, start: outOf(rewritten(instance, "nissy_start", step)), text };
   }

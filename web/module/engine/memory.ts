@@ -29,12 +29,11 @@ export class InstanceMemory {
     if (this.memory.buffer !== this.all.buffer) this.all = new Uint8Array(this.memory.buffer);
   }
 
-  longs(at: number, count: number): number[] {
+  /** @returns so many numbers of eight bytes each, none of which is above 2^32 */
+  longs(at: number, count: number): Uint32Array {
     const view = new DataView(this.all.buffer, at, 8 * count);
-    const numbers = new Array(count);
-    for (let nth = 0; nth < count; nth += 1) {
-      numbers[nth] = view.getUint32(8 * nth, true) + 2 ** 32 * view.getUint32(8 * nth + 4, true);
-    }
+    const numbers = new Uint32Array(count);
+    for (let nth = 0; nth < count; nth += 1) numbers[nth] = view.getUint32(8 * nth, true);
     return numbers;
   }
 

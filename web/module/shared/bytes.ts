@@ -55,10 +55,13 @@ export function takenLine(line: unknown, what: string): Text {
   return taken;
 }
 
-/** Which character of a line stands at a column, from 1: what stands before a fault spells moves, so it can be read. */
+/** Which character of a line stands at a column, from 1. What stands before a fault spells moves: a character there has
+ * one byte, or three if it is U+2019. */
 export function characterAt(line: Text, column: number) {
-  const bytes = typeof line === "string" ? encoded(line) : line;
-  return textIn(bytes.subarray(0, column - 1)).length + 1;
+  if (typeof line !== "string") return textIn(line.subarray(0, column - 1)).length + 1;
+  let character = 1;
+  for (let byte = 1; byte < column; character += 1) byte += line[character - 1] === "\u2019" ? 3 : 1;
+  return character;
 }
 
 export function eachOf<Value, Made>(values: readonly Value[], make: (value: Value, index: number) => Made): Made[] {

@@ -28,7 +28,15 @@ export class NissyFault extends Error {
   constructor(text: string, place: Partial<FaultParts>, part = "") {
     const { column = null, character = null, step = null, start = null, line = null } = place;
     super(placeInWords(line, column, part) + text);
-    Object.assign(this, { name: "NissyFault", text, column, character, step, start, line, part });
+    // one by one, since there may be many of a long text
+    this.name = "NissyFault";
+    this.text = text;
+    this.column = column;
+    this.character = character;
+    this.step = step;
+    this.start = start;
+    this.line = line;
+    this.part = part;
   }
 
   /** The same as a plain value. */

@@ -1,65 +1,113 @@
-// What the module says of each attempt of a text: whether it is solved, where faults and forms stand in the text, and
-// what makes one doubt the reading of an attempt that isn't solved.
-import { AttemptReader, type Attempt, type AttemptDoubt } from "./attempts.js";
-import { refusal } from "../engine/line-calls.js";
+// What the module says of each attempt of a text, as values: whether it is solved, where faults and forms stand in the
+// text, and what makes one doubt the reading of an attempt that isn't solved.
+import { NAMES_OF_CHECK, checkFrom, errorIn, type OfTwo } from "../calls/replies.js";
+import { characterAt } from "../shared/bytes.js";
+import { NissyFault, withoutTraces } from "../shared/faults.js";
 import { CHECK_ANSWER } from "../shared/layout.js";
 import { HEAD, STATUS } from "../shared/structs.js";
+import { AttemptReader, withoutPlaces, type Attempt, type AttemptDoubt } from "./attempts.js";
 import { ATTEMPT_CHECK } from "./text-layout.js";
 import { formPlacesOf, type FormPlace } from "./tokens.js";
-import { unitOf, type PlainLine, type TextPlace, type TextPlaces } from "./written.js";
-import type { OfTwo, Seen } from "../calls/replies.js";
-import type { Instance } from "../engine/instance.js";
-import type { TextCalls } from "./text-calls.js";
+import { WrittenText, type PlainLine, type TextPlace } from "./written.js";
+import type { Check } from "../shared/facts.js";
+import type { RequestOf } from "../calls/requests.js";
+import type { ToldText } from "./text-calls.js";
 
 /** Forms of a solution as `formPlaces` tells them, and where they stand in the text. */
 export type FormInText = Pick<FormPlace, "text" | "forms"> & { place: TextPlace };
 
-/** An attempt of a text with what the module says of its scramble and solution, null if nothing; `place` is that of a
- * fault. What is seen of many stands in one array. */
-export type SeenAttempt = {
+/** An attempt of a text. `check` is null if it has no solution, or if a part is at fault: `fault` says so, its `part`
+ * says which, and `place` where in the text; both are null of an attempt without a fault. `forms` are those of a
+ * solution that was checked. `doubt` tells why an attempt may be read otherwise than it was meant, and is null if it is
+ * solved, has a fault, or is in none. */
+export type AttemptCheck = {
   attempt: Attempt;
-  seen: Seen | OfTwo | null;
+  check: Check | null;
+  fault: NissyFault | null;
   place: TextPlace | null;
   forms: FormInText[];
   doubt: AttemptDoubt | null;
 };
 
+/** What the module tells of a text whose attempts it checked, and the words for each fault by its number. */
+export type CheckedText = ToldText & { faults: readonly string[] };
+
 const ATTEMPT_READ = ATTEMPT_CHECK.read;
 
-/** Forms of a solution with their places in the text. */
-const formsInText = (solution: PlainLine, places: TextPlaces): FormInText[] =>
-  formPlacesOf(solution.line).map(({ text, forms, character }) =>
-  ({ text, forms, place: places.of(unitOf(character, solution)) }));
+/** Reads the checks of the attempts of a text, or of known scrambles and of the parts of a text that has only solutions
+ * of these, each by where it stands in what is told. */
+class CheckReader {
+  #written: WrittenText;
+  #attempts: AttemptReader;
 
-/** The attempts of a text, which are told of at least one, or the solutions of scrambles in a text that has only these:
- * one for each, and then what can't be seen to be one. */
-export function seenAttempts(instance: Instance, text: TextCalls, scrambles?: string[]): SeenAttempt[] {
-  const told = text.checked(scrambles);
-  const reader = new AttemptReader(text);
-  const seenAt = (at: number): SeenAttempt => {
-    const [attempt, doubt] = reader.told(told, at, scrambles);
-    const { solution } = attempt;
-    const made: SeenAttempt =
-      { attempt, seen: null, place: null, forms: [], doubt: ATTEMPT_READ.doubted(told, at) === 1 ? doubt : null };
-    const check = at + ATTEMPT_CHECK.at.check;
-    if (HEAD.read.status(told, check) !== STATUS.done) {
-      const line = HEAD.read.line(told, check);
-      const faulty = line === 1 ? attempt.scramble : solution;
-      made.seen = Object.assign(refusal(instance, faulty?.line, "", told, check), { line });
-      made.place = reader.place(ATTEMPT_READ.faultAt(told, at));
-    } else if (ATTEMPT_READ.checked(told, at) === 1) {
-      made.seen = { status: STATUS.done, answer: told, at: check };
-      const hasForms = solution !== null && CHECK_ANSWER.read.forms(told, check) > 0;
-      if (hasForms) made.forms = formsInText(solution, text.written.places);
+  constructor(private told: CheckedText, text: string, private scrambles?: readonly string[]) {
+    this.#written = new WrittenText(text);
+    this.#attempts = new AttemptReader(this.#written, told);
+  }
+
+  /** @param doubt of the check, which is that of its reading too unless a part of it would solve */
+  #attempt(at: number, doubt: AttemptDoubt | null): Attempt {
+    const { told: { checks }, scrambles } = this;
+    const first = ATTEMPT_READ.firstLine(checks, at);
+    const end = ATTEMPT_READ.endLine(checks, at);
+    const attempt = this.#attempts.attempt(first, end, doubt?.reason === "a part" ? null : doubt);
+    if (scrambles === undefined) return attempt;
+    attempt.name = this.#written.part(ATTEMPT_READ.nameBegin(checks, at), ATTEMPT_READ.nameEnd(checks, at));
+    // a great number says of none
+    const scramble = scrambles[ATTEMPT_READ.scramble(checks, at)];
+    if (scramble !== undefined && !this.#attempts.scrambles.has(first, end)) attempt.scramble = withoutPlaces(scramble);
+    return attempt;
+  }
+
+  /** @param at where stands what is said of both lines */
+  #fault(at: number, { scramble, solution }: Attempt): NissyFault {
+    const { checks, faults } = this.told;
+    const line = HEAD.read.line(checks, at);
+    const status = HEAD.read.status(checks, at);
+    if (status !== STATUS.fault) throw errorIn({ status, line } as OfTwo, NAMES_OF_CHECK);
+    const column = HEAD.read.column(checks, at);
+    const character = characterAt((line === 1 ? scramble : solution)?.line ?? "", column);
+    return new NissyFault(faults[HEAD.read.fault(checks, at)], { column, character, line }, NAMES_OF_CHECK[line - 1]);
+  }
+
+  #forms(solution: PlainLine): FormInText[] {
+    const { places } = this.#written;
+    return formPlacesOf(solution.line).map(({ text, forms, character }) =>
+      ({ text, forms, place: places.of(solution.places[character - 1]) }));
+  }
+
+  check(at: number): AttemptCheck {
+    const { checks } = this.told;
+    const doubt = this.#attempts.doubt(ATTEMPT_READ.doubt(checks, at), ATTEMPT_READ.doubtAt(checks, at));
+    const attempt = this.#attempt(at, doubt);
+    const made: AttemptCheck = { attempt, place: null, forms: [], doubt: null, check: null, fault: null };
+    if (ATTEMPT_READ.doubted(checks, at) === 1) made.doubt = doubt;
+    const answer = at + ATTEMPT_CHECK.at.check;
+    if (HEAD.read.status(checks, answer) !== STATUS.done) {
+      made.fault = this.#fault(answer, attempt);
+      made.place = this.#attempts.place(ATTEMPT_READ.faultAt(checks, at));
+    } else if (ATTEMPT_READ.checked(checks, at) === 1) {
+      made.check = checkFrom({ status: STATUS.done, answer: checks, at: answer });
+      const { solution } = attempt;
+      if (solution !== null && CHECK_ANSWER.read.forms(checks, answer) > 0) made.forms = this.#forms(solution);
     }
     return made;
-  };
-  const seen: SeenAttempt[] = [];
-  for (let at = 0; at < told.length; at += ATTEMPT_CHECK.bytes) {
-    const scramble = ATTEMPT_READ.scramble(told, at);
-    // a scramble is a part too, before those that the text has
-    const isFurther = scrambles !== undefined && seen.length >= scrambles.length && scramble < scrambles.length;
-    seen[isFurther ? scramble : seen.length] = seenAt(at);
   }
-  return seen;
+}
+
+/** What is said of each attempt of a text, which has at least one, or of known scrambles: one for each, and then what
+ * can't be seen to be of one. */
+export function attemptChecksIn(told: CheckedText, { text, scrambles }: RequestOf<"checkAttempts">): AttemptCheck[] {
+  const { checks } = told;
+  const reader = new CheckReader(told, text, scrambles);
+  const made: AttemptCheck[] = [];
+  return withoutTraces(() => {
+    for (let at = 0; at < checks.length; at += ATTEMPT_CHECK.bytes) {
+      const scramble = ATTEMPT_READ.scramble(checks, at);
+      // a scramble is a part too, before those that the text has
+      const isFurther = scrambles !== undefined && made.length >= scrambles.length && scramble < scrambles.length;
+      made[isFurther ? scramble : made.length] = reader.check(at);
+    }
+    return made;
+  });
 }

@@ -1,9 +1,10 @@
 // What solvers write down of their attempts: scrambles, each with the steps of a solution and candidates beside it, put
 // together of what the module tells of each line. Nothing of it is called at fault here: what is no line of moves is at
 // fault where it is used.
-import { MOVES_OF, type TextCalls, type TextLine } from "./text-calls.js";
-import { ATTEMPT_CHECK } from "./text-layout.js";
-import type { PlainLine, TextPlace, WrittenText } from "./written.js";
+import { LINE_KIND, type ToldText, type WrittenMoves } from "./text-calls.js";
+import { MOVES_PART, TEXT_LINE } from "./text-layout.js";
+import { Cuts, WrittenText, type PlainLine, type TextPlace } from "./written.js";
+import type { Reading } from "../shared/structs.js";
 
 /** A way that was tried: its steps, these in one, and what is said of it on lines of their own. */
 export type AttemptCandidate = { steps: PlainLine[]; solution: PlainLine; note: string };
@@ -32,139 +33,169 @@ export type Attempt = {
   doubt: AttemptDoubt | null;
 };
 
-/** What a line is, by the module's numbers. */
-const LINE_KIND = { blank: 0, before: 1, scramble: 2, step: 3, note: 4 };
+const LINE_READ = TEXT_LINE.read;
+const PART_READ = MOVES_PART.read;
 
 /** @returns one that has no place in the text */
-const withoutPlaces = (line: string): PlainLine => ({ line, places: [], leftOut: [] });
+export const withoutPlaces = (line: string): PlainLine => ({ line, places: [], leftOut: [] });
 
 /** An attempt with nothing but a scramble. */
 export const attemptOf = (scramble: PlainLine): Attempt => ({
   name: "", scramble, steps: [], solution: null, candidates: [], before: 0, doubt: null,
 });
 
-/** Runs of lines, of which each goes on the one before it. */
-function inRuns(lines: TextLine[], goesOn: (line: TextLine, before: TextLine) => boolean): TextLine[][] {
-  const runs: TextLine[][] = [];
-  lines.forEach((line, at) => {
-    if (at > 0 && goesOn(line, lines[at - 1])) runs[runs.length - 1].push(line);
-    else runs.push([line]);
-  });
-  return runs;
+/** The moves of the lines of a kind. */
+class Moves {
+  #cuts: Cuts;
+
+  constructor(whole: WrittenText, private moves: WrittenMoves) {
+    this.#cuts = new Cuts(whole, moves);
+  }
+
+  /** Whether any line from one to another has such. */
+  has(first: number, end: number): boolean {
+    return this.moves.before[first] < this.moves.before[end];
+  }
+
+  /** The moves of the lines from one to another as one line. */
+  of(first: number, end: number): PlainLine {
+    if (!this.has(first, end)) return withoutPlaces("");
+    const { before, parts } = this.moves;
+    const begin = before[first] * MOVES_PART.bytes;
+    const last = (before[end] - 1) * MOVES_PART.bytes;
+    let left = 0;
+    for (let at = begin; at <= last; at += MOVES_PART.bytes) left |= PART_READ.leftOut(parts, at);
+    return this.#cuts.cut(PART_READ.begin(parts, begin), PART_READ.end(parts, last), left);
+  }
 }
 
-/** @returns those of each attempt */
-const byAttempt = (lines: TextLine[]): TextLine[][] =>
-  inRuns(lines, ({ attempt }, before) => attempt === before.attempt);
-
-const hasScramble = (lines: TextLine[]) => lines.some(({ kind }) => kind === LINE_KIND.scramble);
-
-const isOfStep = ({ kind }: TextLine) => kind === LINE_KIND.step;
-
-/** Reads the attempts of a text. */
+/** Reads the attempts of a text, of which each is the lines from one to another. */
 export class AttemptReader {
-  #text: TextCalls;
-  #written: WrittenText;
+  readonly scrambles: Moves;
+  #steps: Moves;
+  #lines: Uint8Array;
 
-  constructor(text: TextCalls) {
-    this.#text = text;
-    this.#written = text.written;
+  constructor(private written: WrittenText, { lines, moves }: ToldText) {
+    this.#lines = lines;
+    [this.scrambles, this.#steps] = moves.map((each) => new Moves(written, each));
   }
 
-  /** @returns each of the steps among them */
-  #steps(lines: TextLine[]): PlainLine[] {
-    return lines.filter(isOfStep).map((line) => this.#text.moves([line], MOVES_OF.steps));
+  /** @returns a number that is told of a line */
+  #told(nth: number, read: Reading): number {
+    return read(this.#lines, nth * TEXT_LINE.bytes);
   }
 
-  /** @returns the words of its label */
-  #label({ labelBegin, labelEnd }: TextLine): string {
-    return this.#written.part(labelBegin, labelEnd);
+  /** @returns what stands in a line from one of its places to another */
+  #words(nth: number, begin: Reading, end: Reading): string {
+    return this.written.part(this.#told(nth, begin), this.#told(nth, end));
+  }
+
+  #label(nth: number): string {
+    return this.#words(nth, LINE_READ.labelBegin, LINE_READ.labelEnd);
   }
 
   /** What a line without moves says: its label, if nothing follows that, else all of it. */
-  #note(line: TextLine) {
-    const { headEnd, labelBegin, labelEnd, moves, end } = line;
-    if (labelBegin < labelEnd && this.#written.part(moves, end) === "") return this.#label(line);
-    return this.#written.part(headEnd, end).replace(/^\/\/\s*/, "");
+  #note(nth: number): string {
+    const isLabelled = this.#told(nth, LINE_READ.labelBegin) < this.#told(nth, LINE_READ.labelEnd);
+    if (isLabelled && this.#words(nth, LINE_READ.moves, LINE_READ.end) === "") return this.#label(nth);
+    return this.#words(nth, LINE_READ.headEnd, LINE_READ.end).replace(/^\/\/\s*/, "");
   }
 
-  /** What all of some lines have in one, which is the one step if there is no other.
-   * @param which of them are wanted */
-  #inOne(steps: PlainLine[], lines: TextLine[], which: number) {
-    return steps.length === 1 ? steps[0] : this.#text.moves(lines, which);
+  /** @returns the first of some lines of which this is told, or their end */
+  #first(first: number, end: number, read: Reading): number {
+    let nth = first;
+    while (nth < end && this.#told(nth, read) === 0) nth += 1;
+    return nth;
   }
 
-  #candidate(group: TextLine[]): AttemptCandidate {
-    const note = group.filter(({ kind }) => kind === LINE_KIND.note).map((line) => this.#note(line)).join(" ");
-    const told = group.find(({ labelled }) => labelled === 1);
-    const steps = this.#steps(group);
+  /** @returns those of some lines of which this number is told */
+  #having(lines: number[], read: Reading, wanted: number): number[] {
+    return lines.filter((nth) => this.#told(nth, read) === wanted);
+  }
+
+  /** @returns each of some steps */
+  #each(lines: number[]): PlainLine[] {
+    return lines.map((nth) => this.#steps.of(nth, nth + 1));
+  }
+
+  /** What all of some steps have in one, among which no other stands: the one step if there is no other. */
+  #inOne(steps: PlainLine[], lines: number[]): PlainLine {
+    return steps.length === 1 ? steps[0] : this.#steps.of(lines[0], lines[lines.length - 1] + 1);
+  }
+
+  #candidate(group: number[]): AttemptCandidate {
+    const lines = this.#having(group, LINE_READ.kind, LINE_KIND.step);
+    const steps = this.#each(lines);
+    const note = this.#having(group, LINE_READ.kind, LINE_KIND.note).map((nth) => this.#note(nth)).join(" ");
+    const [labelled] = this.#having(group, LINE_READ.labelled, 1);
     return {
       steps,
-      solution: this.#inOne(steps, group, MOVES_OF.steps),
-      note: note || (told === undefined ? "" : this.#label(told)),
+      solution: this.#inOne(steps, lines),
+      note: note || (labelled === undefined ? "" : this.#label(labelled)),
     };
   }
 
   /** @param byte of the text
    * @returns null beyond it */
   place(byte: number): TextPlace | null {
-    const { bytes, places } = this.#written;
-    return byte <= bytes.length ? places.of(this.#written.unit(byte)) : null;
+    const { bytes, places } = this.written;
+    return byte <= bytes.length ? places.of(this.written.unit(byte)) : null;
   }
 
   /** @param number of a reason, which is seen at a byte of the text */
-  #doubt(number: number, byte: number): AttemptDoubt | null {
-    const place = this.place(byte);
-    return number === 0 || place === null ? null : { reason: REASONS[number] as AttemptDoubt["reason"], place };
+  doubt(number: number, byte: number): AttemptDoubt | null {
+    const place = number === 0 ? null : this.place(byte);
+    return place === null ? null : { reason: REASONS[number] as AttemptDoubt["reason"], place };
   }
 
-  /** @returns the first head of these, or "" */
-  name(lines: TextLine[]): string {
-    const head = lines.find(({ headed }) => headed === 1);
-    return head === undefined ? "" : this.#written.part(head.begin, head.headEnd);
+  /** The attempts that have a scramble. */
+  all(): Attempt[] {
+    const attempts: Attempt[] = [];
+    const count = this.#lines.length / TEXT_LINE.bytes;
+    for (let first = 0, end = 1; end <= count; end += 1) {
+      if (end < count && this.#told(end, LINE_READ.attempt) === this.#told(first, LINE_READ.attempt)) continue;
+      const nth = this.#first(first, end, LINE_READ.doubt);
+      const doubt = nth < end ? this.doubt(this.#told(nth, LINE_READ.doubt), this.#told(nth, LINE_READ.doubtAt)) : null;
+      if (this.scrambles.has(first, end)) attempts.push(this.attempt(first, end, doubt));
+      first = end;
+    }
+    return attempts;
   }
 
-  /** An attempt that the module checked, of known scrambles or not, and what makes one doubt the check. */
-  told(told: Uint8Array, at: number, scrambles?: string[]): [Attempt, AttemptDoubt | null] {
-    const { read } = ATTEMPT_CHECK;
-    const lines = this.#text.between(read.firstLine(told, at), read.endLine(told, at));
-    const [attempt, doubt] = [this.attempt(lines), this.#doubt(read.doubt(told, at), read.doubtAt(told, at))];
-    if (scrambles === undefined) return [attempt, doubt];
-    attempt.name = this.#written.part(read.nameBegin(told, at), read.nameEnd(told, at));
-    attempt.doubt = doubt?.reason === "a part" ? null : doubt;
-    // a great number says of none
-    const scramble = scrambles[read.scramble(told, at)];
-    if (scramble !== undefined && !hasScramble(lines)) attempt.scramble = withoutPlaces(scramble);
-    return [attempt, doubt];
+  /** @param doubt in which it is */
+  attempt(first: number, end: number, doubt: AttemptDoubt | null): Attempt {
+    const attempt = attemptOf(this.scrambles.of(first, end));
+    attempt.doubt = doubt;
+    const headed = this.#first(first, end, LINE_READ.headed);
+    if (headed < end) attempt.name = this.#words(headed, LINE_READ.begin, LINE_READ.headEnd);
+    const after: number[] = [];
+    for (let nth = first; nth < end; nth += 1) {
+      const kind = this.#told(nth, LINE_READ.kind);
+      if (kind === LINE_KIND.before) attempt.before += 1;
+      if (kind >= LINE_KIND.step) after.push(nth);
+    }
+    if (this.#steps.has(first, end)) this.#takeSteps(attempt, after);
+    return attempt;
   }
 
-  /** @param lines of it */
-  attempt(lines: TextLine[]): Attempt {
-    const doubted = lines.find((line) => line.doubt > 0);
-    const doubt = doubted === undefined ? null : this.#doubt(doubted.doubt, doubted.doubtAt);
-    const before = lines.filter(({ kind }) => kind === LINE_KIND.before).length;
-    const begun = { ...attemptOf(this.#text.moves(lines, MOVES_OF.scramble)), name: this.name(lines), before, doubt };
-    return lines.some(isOfStep) ? this.#withSteps(begun, lines) : begun;
-  }
-
-  /** @returns the same with what its lines have */
-  #withSteps(begun: Attempt, lines: TextLine[]): Attempt {
-    const after = lines.filter(({ kind }) => kind >= LINE_KIND.step);
-    const groups = inRuns(after, ({ group }, before) => group === before.group);
-    const moved = groups.filter((group) => group[0].group > 0 && group.some(isOfStep));
-    const told = after.filter((line) => isOfStep(line) && line.solution === 1);
-    const under = after.filter((line) => isOfStep(line) && line.group === 0);
-    const steps = this.#steps(under.length > 0 ? under : told);
-    const alike = under.length === 0 || under[0] === told[0] ? steps : [];
-    const solution = told.length > 0 ? this.#inOne(alike, lines, MOVES_OF.solution) : null;
-    return { ...begun, steps, solution, candidates: moved.map((group) => this.#candidate(group)) };
+  /** Gives an attempt what it has after its scramble.
+   * @param after the lines there that aren't blank */
+  #takeSteps(attempt: Attempt, after: number[]) {
+    const every = this.#having(after, LINE_READ.kind, LINE_KIND.step);
+    const told = this.#having(every, LINE_READ.solution, 1);
+    const under = this.#having(every, LINE_READ.group, 0);
+    attempt.steps = this.#each(under.length > 0 ? under : told);
+    const alike = under.length === 0 || under[0] === told[0] ? attempt.steps : [];
+    if (told.length > 0) attempt.solution = this.#inOne(alike, told);
+    const groups = new Map<number, number[]>(every.map((nth) => [this.#told(nth, LINE_READ.group), []]));
+    for (const nth of after) groups.get(this.#told(nth, LINE_READ.group))?.push(nth);
+    groups.delete(0);
+    attempt.candidates = Array.from(groups.values(), (group) => this.#candidate(group));
   }
 }
 
 /** The attempts of a text as solvers write it, of which there is at least one. */
-export function attemptsIn(text: TextCalls): Attempt[] {
-  const attempts = byAttempt(text.lines()).filter(hasScramble);
-  if (attempts.length === 0) return [attemptOf(withoutPlaces(""))];
-  const reader = new AttemptReader(text);
-  return attempts.map((lines) => reader.attempt(lines));
+export function attemptsIn(told: ToldText, text: string): Attempt[] {
+  const attempts = new AttemptReader(new WrittenText(text), told).all();
+  return attempts.length > 0 ? attempts : [attemptOf(withoutPlaces(""))];
 }

@@ -1,48 +1,26 @@
-// The calls of the module that read text as solvers write it.
+// The calls of the module that read text as solvers write it. What they tell stays in bytes, which a worker hands over
+// as they are: who asked makes values of them.
 import {
   ATTEMPTS_ANSWER, ATTEMPT_CHECK, KNOWN_ANSWER, KNOWN_PART, MOVES_PART, PLAIN_ANSWER, TEXT_ANSWER, TEXT_LINE,
 } from "./text-layout.js";
-import { encoded } from "../shared/bytes.js";
+import { encoded, joinedBytes } from "../shared/bytes.js";
 import { STATUS, struct, structOf } from "../shared/structs.js";
 import type { Given, Instance } from "../engine/instance.js";
-import { Cuts, type PlainLine, type WrittenLine, type WrittenText } from "./written.js";
+import { FEED, RETURN, type WrittenLine } from "./written.js";
 
-const LINE_READ = TEXT_LINE.read;
+/** The moves of the lines of a kind, one after another; `parts`: of each of these lines where its moves stand, as the
+ * module has it, and `before`: how many of them come before each line of the text, and before its end. */
+export type WrittenMoves = WrittenLine & { parts: Uint8Array; before: Uint32Array };
 
-/** What the module tells of a line of a text, by the names of its struct, each read when it is asked for; and which it
- * is, from 0. */
-export type TextLine = { nth: number } & Record<keyof typeof LINE_READ, number>;
+/** What the module tells of each line of a text, the moves of its scrambles and of its steps, and what it says of each
+ * attempt if it was asked. */
+export type ToldText = { lines: Uint8Array; moves: WrittenMoves[]; checks: Uint8Array };
 
-class LineOfText {
-  /** @param told of all lines */
-  constructor(public nth: number, public told: Uint8Array) {}
-}
+/** What a line is, by the module's numbers. */
+export const LINE_KIND = { blank: 0, before: 1, scramble: 2, step: 3, note: 4 };
 
-for (const [name, read] of Object.entries(LINE_READ)) {
-  const get = function (this: LineOfText) { return read(this.told, this.nth * TEXT_LINE.bytes); };
-  Object.defineProperty(LineOfText.prototype, name, { get });
-}
-
-/** The kind of a blank line, or of a head alone, of one of the scramble, and of a step, by the module's numbers. */
-const BLANK = 0;
-const OF_SCRAMBLE = 2;
-const OF_STEP = 3;
-
-/** Of which of some lines moves are asked for, by the module's numbers. */
-export const MOVES_OF = { scramble: 0, steps: 1, solution: 2 };
-
-/** @param told of all lines
- * @param at where that of the line stands */
-const isStepLine = (told: Uint8Array, at: number) => LINE_READ.kind(told, at) === OF_STEP;
-
-/** Which lines have such, in the same order, by what is told. */
-const IS_WANTED: ((told: Uint8Array, at: number) => boolean)[] = [
-  (told, at) => LINE_READ.kind(told, at) === OF_SCRAMBLE, isStepLine,
-  (told, at) => isStepLine(told, at) && LINE_READ.solution(told, at) === 1,
-];
-
-/** The bytes that end a line, two of which may end one together. */
-const LINE_ENDS = [0x0a, 0x0d];
+/** The kind of the lines whose moves are asked for, by the module's numbers: those of scrambles, and steps. */
+const WITH_MOVES = [LINE_KIND.scramble, LINE_KIND.step];
 
 const PLACE = struct({ at: 8 });
 
@@ -50,91 +28,62 @@ const PLACE = struct({ at: 8 });
 const MOST_OF_BYTE = 3;
 const OF_LINE = 3;
 
-const PART_READ = MOVES_PART.read;
-
 /** A known scramble as a part of a text, which has no lines. */
 const withoutLines = (_: unknown, scramble: number) => structOf(KNOWN_PART, {
   scramble, begin: 0, nameBegin: 0, nameEnd: 0, firstLine: 0, solutionEnd: 0, endLine: 0,
 });
 
-/** @returns some bytes, one after another */
-function allBytes(all: Uint8Array[]): Uint8Array {
-  const bytes = new Uint8Array(all.reduce((length, each) => length + each.length, 0));
-  let end = 0;
-  for (const each of all) {
-    bytes.set(each, end);
-    end += each.length;
-  }
-  return bytes;
-}
-
-/** The moves of those lines of a text that are wanted, one after another. */
-class Moves {
-  #cuts: Cuts;
-  /** of each of these lines where they stand, as the module has it */ #parts: Uint8Array;
-  /** how many lines before each one of the text are wanted */ #before: Uint32Array;
-
-  constructor(cuts: Cuts, parts: Uint8Array, before: Uint32Array) {
-    this.#cuts = cuts;
-    this.#parts = parts;
-    this.#before = before;
-  }
-
-  /** The moves of some lines of a text, which follow each other there, as one line. */
-  of(lines: TextLine[]): PlainLine {
-    const range = lines.length === 0 ? [0, 0] : [lines[0].nth, lines[lines.length - 1].nth + 1];
-    const [begin, end] = range.map((nth) => this.#before[nth] * MOVES_PART.bytes);
-    if (begin === end) return this.#cuts.cut(0, 0, 0);
-    let left = 0;
-    for (let at = begin; at < end; at += MOVES_PART.bytes) left |= PART_READ.leftOut(this.#parts, at);
-    const last = end - MOVES_PART.bytes;
-    return this.#cuts.cut(PART_READ.begin(this.#parts, begin), PART_READ.end(this.#parts, last), left);
-  }
-}
-
 /** The calls of an instance on a text. */
 export class TextCalls {
+  #text: Uint8Array;
   /** so many bytes have place that are written of it, if it has no odd apostrophes */ #room: number;
   /** how many lines it has */ #count = 0;
   /** what is told of each */ #told = new Uint8Array(0);
-  /** the moves of all lines, by whose they are */ #moves: Moves[] = [];
 
-  constructor(private instance: Instance, readonly written: WrittenText) {
-    this.#room = written.bytes.length;
+  constructor(private instance: Instance, text: string) {
+    this.#text = encoded(text);
+    this.#room = this.#text.length;
   }
 
   /** @returns all of it as one line */
-  plain(): PlainLine {
-    const { written } = this.#writtenBy("nissy_plain", []);
-    return new Cuts(this.written, written).cut(0, written.bytes.length, written.leftOut);
+  plain(): WrittenLine {
+    return this.#written("nissy_plain", []).written;
   }
 
-  /** @returns all but the blank ones without a head */
-  lines(): TextLine[] {
-    const [, lines] = this.#ask("nissy_text_lines", [{ rows: this.#mostLines(), of: TEXT_LINE }]);
-    this.#keep(lines, this.instance.answered(TEXT_ANSWER.read.lines));
-    return this.between(0, this.#count);
+  /** What is told of its attempts without checks. */
+  read(): ToldText {
+    this.#readLines();
+    return this.#toldWith(new Uint8Array(0));
   }
 
-  /** What is said of each attempt, as the module has it; or of each known scramble, as if it had no solution, and then
-   * of each part of a text that has only solutions of these. */
-  checked(known?: string[]): Uint8Array {
+  /** And what is said of each attempt; or of each known scramble, as if it had no solution, and then of each part of a
+   * text that has only solutions of these. */
+  checked(known?: string[]): ToldText {
     const scrambles = (known ?? []).map(encoded);
-    if (known === undefined) this.lines();
+    if (known === undefined) this.#readLines();
     const parts = known === undefined ? new Uint8Array(0) : this.#knownParts(scrambles);
     // twice as much has room as is written of it: the scramble has its own
     const tried = (room: number) => this.#checkedIn(2 * room, parts, scrambles);
     const checks = tried(this.#room) ?? tried(MOST_OF_BYTE * this.#room) ?? parts;
-    return checks.length > 0 || known !== undefined ? checks : new Uint8Array(ATTEMPT_CHECK.bytes);
+    return this.#toldWith(checks.length > 0 || known !== undefined ? checks : new Uint8Array(ATTEMPT_CHECK.bytes));
+  }
+
+  #toldWith(checks: Uint8Array): ToldText {
+    return { lines: this.#told, moves: WITH_MOVES.map((kind, which) => this.#moves(kind, which)), checks };
+  }
+
+  #readLines() {
+    const [, lines] = this.#ask("nissy_text_lines", [{ rows: this.#mostLines(), of: TEXT_LINE }]);
+    this.#keep(lines, this.instance.answered(TEXT_ANSWER.read.lines));
   }
 
   /** @returns null if there was no room for so many bytes */
   #checkedIn(room: number, parts: Uint8Array, scrambles: Uint8Array[]): Uint8Array | null {
     let at = 0;
-    const ends = allBytes(scrambles.map(({ length }) => structOf(PLACE, { at: at += length })));
+    const ends = joinedBytes(scrambles.map(({ length }) => structOf(PLACE, { at: at += length })));
     const count = parts.length / KNOWN_PART.bytes;
     const places = this.#ask("nissy_check_attempts", [
-      this.#lines(), { rows: count, of: KNOWN_PART, first: parts }, { text: allBytes(scrambles) },
+      this.#lines(), { rows: count, of: KNOWN_PART, first: parts }, { text: joinedBytes(scrambles) },
       { rows: scrambles.length, of: PLACE, first: ends }, { room }, { rows: room, of: PLACE },
       { rows: this.#count + count, of: ATTEMPT_CHECK },
     ]);
@@ -151,54 +100,32 @@ export class TextCalls {
     ]);
     this.#keep(lines, this.instance.answered(KNOWN_ANSWER.read.lines));
     const count = this.instance.answered(KNOWN_ANSWER.read.parts);
-    return allBytes([...scrambles.map(withoutLines), this.instance.memory.bytes(parts, count * KNOWN_PART.bytes)]);
+    return joinedBytes([...scrambles.map(withoutLines), this.instance.memory.bytes(parts, count * KNOWN_PART.bytes)]);
   }
 
   /** Keeps what was told of so many lines. */
   #keep(lines: number, count: number) {
     this.#count = count;
-    this.#room = this.written.bytes.length + OF_LINE * count;
+    this.#room = this.#text.length + OF_LINE * count;
     this.#told = this.instance.memory.copy(lines, count * TEXT_LINE.bytes);
-  }
-
-  /** @returns those of some lines that aren't blank, or have a head */
-  between(first: number, behind: number): TextLine[] {
-    const lines: LineOfText[] = [];
-    for (let nth = first, at = first * TEXT_LINE.bytes; nth < behind; nth += 1, at += TEXT_LINE.bytes) {
-      const isTold = LINE_READ.kind(this.#told, at) !== BLANK || LINE_READ.headed(this.#told, at) === 1;
-      if (isTold) lines.push(new LineOfText(nth, this.#told));
-    }
-    return lines as unknown as TextLine[];
   }
 
   /** @returns how many lines the text has at most */
   #mostLines(): number {
+    const text = this.#text;
     let most = 1;
-    for (const byte of this.written.bytes) if (byte === LINE_ENDS[0] || byte === LINE_ENDS[1]) most += 1;
+    for (let at = 0; at < text.length; at += 1) if (text[at] === FEED || text[at] === RETURN) most += 1;
     return most;
   }
 
-  /** The moves of those of some lines that are wanted, once all lines were told; those between them count too.
-   * @param which are wanted, by the module's numbers */
-  moves(lines: TextLine[], which: number): PlainLine {
-    return (this.#moves[which] ??= this.#allMoves(which)).of(lines);
-  }
-
-  /** @returns the moves of all lines that are wanted, by the module's numbers */
-  #allMoves(which: number): Moves {
-    const before = this.#before(IS_WANTED[which]);
-    const rows = before[this.#count];
-    const { written, after } = this.#writtenBy("nissy_text_moves", [this.#lines(), which], [{ rows, of: MOVES_PART }]);
-    const parts = this.instance.memory.copy(after, rows * MOVES_PART.bytes);
-    return new Moves(new Cuts(this.written, written), parts, before);
-  }
-
-  /** @returns how many lines are such before each one, and before the end */
-  #before(isWanted: (told: Uint8Array, at: number) => boolean): Uint32Array {
+  /** @returns the moves of all lines of a kind, which are wanted by the module's number */
+  #moves(kind: number, which: number): WrittenMoves {
     const before = new Uint32Array(this.#count + 1);
     for (let nth = 0; nth < this.#count; nth += 1)
-      before[nth + 1] = before[nth] + Number(isWanted(this.#told, nth * TEXT_LINE.bytes));
-    return before;
+      before[nth + 1] = before[nth] + Number(TEXT_LINE.read.kind(this.#told, nth * TEXT_LINE.bytes) === kind);
+    const rows = before[this.#count];
+    const { written, after } = this.#written("nissy_text_moves", [this.#lines(), which], [{ rows, of: MOVES_PART }]);
+    return { ...written, parts: this.instance.memory.copy(after, rows * MOVES_PART.bytes), before };
   }
 
   /** The lines that were told, as a call is given them. */
@@ -207,12 +134,12 @@ export class TextCalls {
   }
 
   #ask(name: string, given: Given[]): number[] {
-    return this.instance.ask(name, [{ text: this.written.bytes }, ...given]);
+    return this.instance.ask(name, [{ text: this.#text }, ...given]);
   }
 
   /** @param before the rooms that a call is given for a line and its places, and after them
    * @returns what the module writes of the text, and where stands what comes after it */
-  #writtenBy(name: string, before: Given[], further: Given[] = []): { written: WrittenLine; after: number } {
+  #written(name: string, before: Given[], further: Given[] = []): { written: WrittenLine; after: number } {
     const { memory } = this.instance;
     const tried = (room: number) => {
       const places = this.#ask(name, [...before, { room }, { rows: room, of: PLACE }, ...further]);

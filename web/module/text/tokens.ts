@@ -28,8 +28,9 @@ export type FormPlace = {
   character: number;
 };
 
-/** A bracket, or a move: its letters, and what is behind them. */
-const ITEM = /([()])|([UDRLFB]w?|[udrlfbMESxyz])(2?['\u2019]|2)?/g;
+/** A bracket, or a move: its letters, and what is behind them; and the same whole, which is found sooner. */
+const PARTED_ITEM = /([()])|([UDRLFB]w?|[udrlfbMESxyz])(2?['\u2019]|2)?/g;
+const ITEM = /[()]|(?:[UDRLFB]w?|[udrlfbMESxyz])(?:2?['\u2019]|2)?/g;
 
 const QUARTERS = new Map([["", 1], ["2", 2], ["'", -1], ["\u2019", -1], ["2'", 2], ["2\u2019", 2]]);
 const SUFFIXES = new Map([[1, ""], [2, "2"], [-1, "'"]]);
@@ -66,7 +67,7 @@ function tokenOf(letters: string, suffix: string, inverse: boolean): Token {
 export function tokensOf(line: string): Token[] {
   const tokens = [];
   let inverse = false;
-  for (const [, bracket, letters, suffix = ""] of line.matchAll(ITEM)) {
+  for (const [, bracket, letters, suffix = ""] of line.matchAll(PARTED_ITEM)) {
     if (bracket === undefined) tokens.push(tokenOf(letters, suffix, inverse));
     else inverse = bracket === "(";
   }
@@ -99,11 +100,12 @@ function formsOf(item: string): readonly Form[] {
 /** Where a line that the engine has read has forms that the WCA's notation for solutions hasn't. */
 export function formPlacesOf(line: string): FormPlace[] {
   const places: FormPlace[] = [];
-  let further = 0;
-  for (const { 0: text, index } of line.matchAll(ITEM)) {
+  let [character, further] = [1, 0];
+  for (const text of line.match(ITEM) ?? []) {
     const forms = formsOf(text);
-    const character = Number(index) + 1;
+    character = line.indexOf(text, character - 1) + 1;
     if (forms.length > 0) places.push({ text, forms, column: character + further, character });
+    character += text.length;
     if (HAS.apostrophe(text)) further += FURTHER_BYTES;
   }
   return places;

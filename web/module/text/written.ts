@@ -6,7 +6,7 @@ import { encoded, textIn } from "../shared/bytes.js";
 export type PlainLine = { line: string; places: number[]; leftOut: string[] };
 
 /** The same in bytes, of which each has its place in those of the text, with the module's bits of what is left out. */
-export type WrittenLine = { bytes: Uint8Array; places: number[]; leftOut: number };
+export type WrittenLine = { bytes: Uint8Array; places: Uint32Array; leftOut: number };
 
 /** Where a fault, a form or a doubt stands in a text: `at` from 0, and its line and the character there, both from 1.
  */
@@ -24,8 +24,9 @@ const FIRST_BITS = 0xc0;
 const GOES_ON = 0x80;
 const OF_FOUR_BYTES = 0xf0;
 
-const FEED = 0x0a;
-const RETURN = 0x0d;
+/** The signs that end a line, of which two may end one together. */
+export const FEED = 0x0a;
+export const RETURN = 0x0d;
 
 /** The first bits of the second of two units that are one character, and what they are. */
 const FIRST_OF_UNIT = 0xfc00;
@@ -104,7 +105,7 @@ export class TextPlaces {
   /** @param at a unit of the text, or its end */
   of(at: number): TextPlace {
     // between the two signs of a line's end the next line begins
-    const isBetween = at > 0 && this.#text.startsWith("\r\n", at - 1);
+    const isBetween = this.#text.charCodeAt(at - 1) === RETURN && this.#text.charCodeAt(at) === FEED;
     const line = countUpTo(this.#lines, at + Number(isBetween));
     const begin = this.#lines[line - 1];
     const pairs = countUpTo(this.#pairs, at) - countUpTo(this.#pairs, begin);
@@ -114,7 +115,7 @@ export class TextPlaces {
 
 /** The unit at which a fault or a form of a plain line stands in the text that it is of. What isn't at a sign of the
  * line is at its end. */
-export const unitOf = (character: number, { places }: PlainLine) =>
+const unitOf = (character: number, { places }: PlainLine) =>
   places[character - 1] ?? (places.length === 0 ? 0 : places[places.length - 1] + 1);
 
 /** Where a fault or a form of a plain line stands in the text that it is of, or null if a fault has no place. */
@@ -154,16 +155,15 @@ export class WrittenText {
 
   /** @returns a line that was written of the text in units, and the unit of each of its own */
   signs({ bytes, places }: WrittenLine): { line: string; places: number[] } {
-    const units: number[] = [];
-    for (let at = 0; at < bytes.length; at += 1) {
-      if (!begins(bytes[at])) continue;
-      const unit = this.unit(places[at]);
-      units.push(unit);
-      if (unitsFrom(bytes[at]) === 2) units.push(unit + 1);
+    const line = textIn(bytes);
+    const units = new Array<number>(line.length);
+    for (let at = 0, next = 0; at < bytes.length; at += 1) {
+      const count = begins(bytes[at]) ? unitsFrom(bytes[at]) : 0;
+      for (let nth = 0; nth < count; nth += 1, next += 1) units[next] = this.unit(places[at]) + nth;
     }
     // half of a pair stays in the line as it stands in the text
     const asWritten = (_: string, at: number) => this.#text[units[at]];
-    return { line: textIn(bytes).replace(NO_CHARACTER, asWritten), places: units };
+    return { line: line.replace(NO_CHARACTER, asWritten), places: units };
   }
 }
 
@@ -180,7 +180,8 @@ export class Cuts {
     this.#units = line.length === written.bytes.length ? null : unitsOf(written.bytes);
   }
 
-  /** What stands from one byte of it to another. */
+  /** @param leftOut the module's bits
+   * @returns what stands from one byte of it to another */
   cut(begin: number, end: number, leftOut: number): PlainLine {
     const from = this.#units === null ? begin : this.#units[begin];
     const to = this.#units === null ? end : this.#units[end];
@@ -188,3 +189,7 @@ export class Cuts {
     return { line, places, leftOut: NAMES_LEFT_OUT[leftOut].slice() };
   }
 }
+
+/** All of a text as the one line that was written of it. */
+export const plainIn = (written: WrittenLine, text: string): PlainLine =>
+  new Cuts(new WrittenText(text), written).cut(0, written.bytes.length, written.leftOut);

@@ -15,10 +15,11 @@ export type Port = {
   postMessage: (message: any, handedOver?: any[]) => void;
 };
 
-const WITH_BUFFERS = ["out", "err", "ways", "parts", "values"];
+const WITH_BUFFERS = ["out", "err", "ways", "parts", "values", "lines", "checks", "bytes", "places", "before"];
 
-/** The buffers of a reply, which needs them no longer here. */
-const buffersOf = (reply: any) => WITH_BUFFERS.flatMap((name) => reply[name]?.buffer ?? []);
+/** The buffers of a reply, and of the moves that it has, which needs them no longer here. */
+const buffersOf = (reply: any) =>
+  [reply, ...(reply.moves ?? [])].flatMap((part) => WITH_BUFFERS.flatMap((name) => part[name]?.buffer ?? []));
 
 /** Answers what comes through a port, once the first message has brought the module.
  * @param answer posts the answers to a later message; what it throws is posted as an error */

@@ -3,12 +3,10 @@
 import { attemptOf, attemptsIn, type Attempt } from "../../module/text/attempts.js";
 import { Instance } from "../../module/engine/instance.js";
 import { TextCalls } from "../../module/text/text-calls.js";
-import { WrittenText, type PlainLine } from "../../module/text/written.js";
+import { plainIn, type PlainLine } from "../../module/text/written.js";
 import type { SentModule } from "../../module/workers/worker-queue.js";
 
 const asItStands = (text: string): PlainLine => ({ line: text, places: Array.from(text, (_, at) => at), leftOut: [] });
-
-const readBy = (instance: Instance, text: string) => new TextCalls(instance, new WrittenText(text));
 
 export class Reader {
   /** @param instance null if the page has no engine: then all stays as it stands */
@@ -24,10 +22,11 @@ export class Reader {
   }
 
   plainLine(text: string): PlainLine {
-    return this.instance === null ? asItStands(text) : readBy(this.instance, text).plain();
+    return this.instance === null ? asItStands(text) : plainIn(new TextCalls(this.instance, text).plain(), text);
   }
 
   attempts(text: string): Attempt[] {
-    return this.instance === null ? [attemptOf(asItStands(text))] : attemptsIn(readBy(this.instance, text));
+    if (this.instance === null) return [attemptOf(asItStands(text))];
+    return attemptsIn(new TextCalls(this.instance, text).read(), text);
   }
 }
