@@ -69,11 +69,12 @@ pub record FindsAfter (step : Step) (w : Wanted) (p : List Turn) (e : Place → 
   -- whether there are more after it than came; of a search that was cut it isn't known
   pub more : told.status ≢ status_number Cut → told.more ≡ nat_lt told.solutions (length (found_after step w p e))
   pub maybe_more : told.status ≡ status_number Cut → told.more ≡ true
-  -- the least length of all solutions, unless it was cut before it knew it, since the search for the shortest looks at more
+  -- the least length of all solutions, unless it was cut before it came to the shortest one, since the search for the
+  -- shortest ones looks at more
   pub least :
       (told.least ≡ unwrap_or (least_length_of step e w.limit) 0)
       ⊎ ((told.status ≡ status_number Cut) × (told.solutions ≡ 0) × (told.least ≡ 0)
-      × (w.most_nodes < near_looks_of step e w.limit 0))
+      × (told.nodes < looks_to_shortest step e w.limit) × (w.most_nodes < near_looks_of step e w.limit 0))
   -- the nodes are those up to the shortest solution, and then all of the search after the sequence
   pub looked : told.more ≡ false → told.nodes ≡ capped (looks_to_shortest step e w.limit + (searched_after step w p e).looks)
   -- or those before the solution that was left

@@ -6,3 +6,4 @@ pub mod SolutionLemmas
 pub mod RoomLemmas
 pub mod SinkLemmas
 pub mod TruthLemmas
+pub mod KeptLemmas

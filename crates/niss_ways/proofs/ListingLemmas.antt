@@ -7,10 +7,11 @@ use Rattle.std.proofs.lemmas.Grind.{get_or-set_at}
 use Rattle.std.proofs.lemmas.List.{append-nil, append_assoc, length-append, get_or_append_left, get_or-set_other}
 use Rattle.std.specs.Prelude.{get_or}
 use Rattle.niss_moves.specs.declared.turn.Face.{Face}
+use Rattle.niss_cube.specs.Steps.{turns_of}
 use Rattle.niss_cube.specs.declared.step.Step.{Step}
 use Rattle.niss_moves.specs.Places.{Place}
 use Rattle.niss_search.specs.BothSides.{Pair, HandsOut, first_pairs, looks_of_pairs}
-use Rattle.niss_search.specs.Budgets.{is_cut_in}
+use Rattle.niss_search.specs.Budgets.{is_cut_in, HasSpent}
 use Rattle.niss_search.specs.Delivery.{WentThrough, WentInto, StoppedIn}
 use Rattle.niss_ways.specs.Listing.{EndsListing, ListsInto, Stands, HasListed, StaysListing, PutOne, ListedOne, LeftOut}
 use Rattle.niss_ways.specs.Shown.{Tells}
@@ -234,8 +235,9 @@ module _ (a b : Rows) (step : Step) (e : Place → Place) (listed : Listed) (fou
   into : (came rest : List Pair) → all ≡ came ++ rest → HasListed a [] → Came a came b → a.step ≡ step → a.passed ≡ listed.passed
       → a.counts ≡ listed.counts → found.rows ≡ b.rows → found.solutions ≡ b.came → (found.cut ≡ false → found.more ≡ false → rest ≡ [])
       → (found.more ≡ true → (b.rows ≡ length b.room.now) × (b.counts ≡ false)) → (found.cut ≡ false → found.more ≡ false → found.looks ≡ all_looks)
-      → (found.cut ≡ true → listed.most_looks < all_looks) → ListsInto a.names.now step e listed (length a.room.now) b.room.now found
-  into came rest are empty h is_step is_passed is_counts rows solutions whole full looked cut =
+      → found.looks ≤ all_looks → (found.cut ≡ true → listed.most_looks < all_looks) → (found.cut ≡ true → listed.most_looks < found.looks + length (turns_of step))
+      → ListsInto a.names.now step e listed (length a.room.now) b.room.now found
+  into came rest are empty h is_step is_passed is_counts rows solutions whole full looked at_most cut spent =
       let has : HasListed b came = h.lists [] empty in
       record {
         came = came;
@@ -249,27 +251,29 @@ module _ (a b : Rows) (step : Step) (e : Place → Place) (listed : Listed) (fou
         full = λ more. rows ∙ (full more).0 ∙ h.stays.same_length;
         uncounted = λ more. sym is_counts ∙ sym h.stays.counts ∙ (full more).1;
         looked = looked;
+        looked_at_most = at_most;
         cut = cut;
+        spent = spent;
       }
 
   pub lists_into : (meter meter_now bound : ℕ) (ended : Result ℕ (Stopped Full)) → HandsOut took refused all all_looks meter meter_now a b is_cut_in bound (λ count. count) ended
       → meter ≡ 0 → bound ≡ meter + listed.most_looks → HasListed a [] → a.step ≡ step → a.passed ≡ listed.passed → a.counts ≡ listed.counts
-      → EndsListing ended b.rows b.came meter_now found
+      → EndsListing ended b.rows b.came meter_now found → HasSpent is_cut_in bound step meter_now ended
       → ListsInto a.names.now step e listed (length a.room.now) b.room.now found
-  lists_into meter meter_now bound (Ok count) h zero is empty is_step is_passed is_counts ends =
+  lists_into meter meter_now bound (Ok count) h zero is empty is_step is_passed is_counts ends spent =
       into all [] (sym (append-nil all)) empty (went a b all h.taken) is_step is_passed is_counts ends.rows_are ends.solutions_are (λ cut more. refl)
       (λ more. absurd (false≢true (sym ends.more ∙ more))) (λ cut more. omega (arith, ends.looks_are, h.looked, zero))
-      (λ cut. absurd (false≢true (sym ends.cut ∙ cut)))
-  lists_into meter meter_now bound (Err (Refused full)) h zero is empty is_step is_passed is_counts ends =
+      (omega (arith, ends.looks_are, h.looked, zero)) (λ cut. absurd (false≢true (sym ends.cut ∙ cut))) (λ cut. absurd (false≢true (sym ends.cut ∙ cut)))
+  lists_into meter meter_now bound (Err (Refused full)) h zero is empty is_step is_passed is_counts ends spent =
       let at : IsFull a all b = stopped a b all h.taken in
       into at.first.came at.first.rest at.first.are empty at.first.lists is_step is_passed is_counts ends.rows_are ends.solutions_are
       (λ cut more. absurd (false≢true (sym more ∙ ends.more))) (λ more. (at.full [] empty, at.uncounted)) (λ cut more. absurd (false≢true (sym more ∙ ends.more)))
-      (λ cut. absurd (false≢true (sym ends.cut ∙ cut)))
-  lists_into meter meter_now bound (Err Cut) h zero is empty is_step is_passed is_counts ends =
+      (omega (arith, ends.looks_are, h.looked, zero)) (λ cut. absurd (false≢true (sym ends.cut ∙ cut))) (λ cut. absurd (false≢true (sym ends.cut ∙ cut)))
+  lists_into meter meter_now bound (Err Cut) h zero is empty is_step is_passed is_counts ends spent =
       let first : CameFirst a all b = went_into a b all h.taken in
       into first.came first.rest first.are empty first.lists is_step is_passed is_counts ends.rows_are ends.solutions_are
       (λ cut more. absurd (false≢true (sym cut ∙ ends.cut))) (λ more. absurd (false≢true (sym ends.more ∙ more))) (λ cut more. absurd (false≢true (sym cut ∙ ends.cut)))
-      (λ cut. omega (arith, h.over refl, zero, is))
+      (omega (arith, ends.looks_are, h.looked, zero)) (λ cut. omega (arith, h.over refl, zero, is)) (λ cut. omega (arith, ends.looks_are, spent refl, zero, is))
 
 pub lists_stays : (a b : Rows) (pairs : List Pair) (looks meter meter_now bound : ℕ) (ended : Result ℕ (Stopped Full))
     → HandsOut took refused pairs looks meter meter_now a b is_cut_in bound (λ count. count) ended → StaysListing a b

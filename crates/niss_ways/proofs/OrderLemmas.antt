@@ -17,12 +17,14 @@ module _ {X : Type 0} (f : X → ℕ) where
     pub from : (k : ℕ) (d : X) → k < n + 1 → k ≢ at → (j : ℕ) × (j < n) × (get_or xs k d ≡ get_or old j d)
     pub sorted : Sorted n old → (i j : ℕ) (d : X) → i < j → j < n + 1 → i ≢ at → j ≢ at → f (get_or xs i d) ≤ f (get_or xs j d)
     pub above : (j : ℕ) (d : X) → at < j → j < n + 1 → r < f (get_or xs j d)
+    pub stay : (j : ℕ) (d : X) → j < n → (k : ℕ) × (k < n + 1) × (k ≢ at) × (get_or xs k d ≡ get_or old j d)
 
   pub begun : (old : List X) (n r : ℕ) → Open old n r n old
   begun old n r = record {
     from = λ k d lt ne. (k, (omega arith), refl);
     sorted = λ h i j d ij jn ni nj. h i j d ij (omega arith);
     above = λ j d lt jn. absurd (omega arith);
+    stay = λ j d lt. (j, (omega arith), (λ e. absurd (omega arith)), refl);
   }
 
   module _ (old : List X) (n r at : ℕ) (xs : List X) (x : X) (o : Open old n r (suc at) xs)
@@ -42,7 +44,14 @@ module _ {X : Type 0} (f : X → ℕ) where
       from = λ k d kn ne. from_at k d kn ne (same_or_not k (suc at));
       sorted = λ h i j d ij jn ni nj. sorted_at h i j d ij jn ni nj (same_or_not i (suc at)) (same_or_not j (suc at));
       above = λ j d jt jn. above_at j d jt jn (same_or_not j (suc at));
+      stay = λ j d jn. let w = o.stay j d jn in stay_at j d w.0 w.1 w.2 w.3 (same_or_not w.0 at);
     } where
+      stay_at : (j : ℕ) (d : X) (k : ℕ) → k < n + 1 → k ≢ suc at → get_or xs k d ≡ get_or old j d → (k ≡ at) ⊎ (k ≢ at)
+          → (m : ℕ) × (m < n + 1) × (m ≢ at) × (get_or now m d ≡ get_or old j d)
+      stay_at j d k kn ne same (inl e) =
+          (suc at, lt, (λ q. absurd (omega arith)), here_now d ∙ sym (is d) ∙ sym (ap (λ (m : ℕ). get_or xs m d) e) ∙ same)
+      stay_at j d k kn ne same (inr e) = (k, kn, e, other_now k d ne ∙ same)
+
       from_at : (k : ℕ) (d : X) → k < n + 1 → k ≢ at → (k ≡ suc at) ⊎ (k ≢ suc at) → (j : ℕ) × (j < n) × (get_or now k d ≡ get_or old j d)
       from_at k d kn ne (inl e) = let w = o.from at d (omega arith) (omega arith) in
           (w.0, w.1, ap (λ (m : ℕ). get_or now m d) e ∙ here_now d ∙ sym (is d) ∙ w.2)
@@ -90,6 +99,9 @@ module _ {X : Type 0} (f : X → ℕ) where
       by_place : (k ≡ at) ⊎ (k ≢ at) → (get_or filled k d ≡ w) ⊎ ((j : ℕ) × (j < n) × (get_or filled k d ≡ get_or old j d))
       by_place (inl e) = inl (ap (λ (m : ℕ). get_or filled m d) e ∙ here_filled d)
       by_place (inr e) = let v = o.from k d kn e in inr (v.0, v.1, other_filled k d e ∙ v.2)
+
+    pub closed_stay : (j : ℕ) (d : X) → j < n → (k : ℕ) × (k < n + 1) × (get_or filled k d ≡ get_or old j d)
+    closed_stay j d jn = let v = o.stay j d jn in (v.0, v.1, other_filled v.0 d v.2 ∙ v.3)
 
     pub closed_sorted : ((d : X) → 0 < at → f (get_or xs (at - 1) d) ≤ f w) → Sorted n old → Sorted (n + 1) filled
     closed_sorted end h i j d ij jn = by_places (same_or_not i at) (same_or_not j at) where

@@ -7,7 +7,7 @@ use Rattle.niss_cube.specs.Steps.{edge_step_on, reached}
 use Rattle.niss_cube.specs.declared.cube.Cube.{Cube}
 use Rattle.niss_cube.specs.declared.step.Step.{Step}
 use Rattle.niss_search.specs.BothSides.{Pair, pair}
-use Rattle.niss_ways.specs.Shown.{Tells}
+use Rattle.niss_ways.specs.Shown.{Tells, no_part}
 use Rattle.niss_ways.specs.Truth.{Origin, IsWay, IsReduction}
 use Rattle.niss_ways.specs.Ways.{cube_after, first_reaches}
 use Rattle.niss_ways.specs.declared.way.Way.{Way}
@@ -26,7 +26,7 @@ in_two_steps o way axis step p between is reached after told reduction = inl (re
 })
 
 pub in_one_step : (o : Origin) (way : Way) (axis : Axis) (step : Step) → step ≡ edge_step_on axis → IsTrue (reached step (map_of o.cube))
-    → way.eo.step ≡ 255 → IsReduction o axis (pair [] []) o.cube way → IsWay o way
+    → way.eo ≡ no_part → IsReduction o axis (pair [] []) o.cube way → IsWay o way
 in_one_step o way axis step is holds none reduction = inr (record {
   axis = axis;
   holds = subst (λ (s : Step). IsTrue (reached s (map_of o.cube))) is holds;

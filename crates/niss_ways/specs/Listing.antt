@@ -1,8 +1,9 @@
 -- A list of a step's solutions over sides, of one length, in a room.
-use Rattle.std.specs.Prelude.{◌≡◌, ℕ, ◌+◌, ◌-◌, ◌^◌, ◌<◌, min, Bool, true, false, Result, Ok, Err, List, [], ◌∷◌, ◌++◌, get_or, slice_set, length}
+use Rattle.std.specs.Prelude.{◌≡◌, ℕ, ◌+◌, ◌-◌, ◌^◌, ◌<◌, ◌≤◌, min, Bool, true, false, Result, Ok, Err, List, [], ◌∷◌, ◌++◌, get_or, slice_set, length}
 use Rattle.niss_moves.specs.declared.turn.Face.{Face}
 use Rattle.niss_moves.specs.Places.{Place}
 use Rattle.niss_cube.specs.Map.{map_of}
+use Rattle.niss_cube.specs.Steps.{turns_of}
 use Rattle.niss_cube.specs.declared.step.Step.{Step}
 use Rattle.niss_search.specs.BothSides.{Pair, first_pairs, looks_of_pairs}
 use Rattle.niss_search.specs.declared.budget.Stopped.{Stopped}
@@ -34,7 +35,10 @@ pub record ListsInto (names : List Face) (step : Step) (e : Place → Place) (li
   pub full : found.more ≡ true → found.rows ≡ places
   pub uncounted : found.more ≡ true → listed.counts ≡ false
   pub looked : found.cut ≡ false → found.more ≡ false → found.looks ≡ looks_of_pairs step e listed.sides listed.length
+  pub looked_at_most : found.looks ≤ looks_of_pairs step e listed.sides listed.length
   pub cut : found.cut ≡ true → listed.most_looks < looks_of_pairs step e listed.sides listed.length
+  -- and leaves fewer of the looks that it may make than the step has turns
+  pub spent : found.cut ≡ true → listed.most_looks < found.looks + length (turns_of step)
 
 -- The same from where one stands.
 abbrev pub Lists : Origin → Step → Listed → (room room_now : List Part) → FoundSolutions → Type 0

@@ -1,5 +1,5 @@
 -- The order of ways.
-use Rattle.std.specs.Prelude.{ℕ, ◌+◌, ◌*◌, ◌<◌, ◌≤◌, ◌==◌, if◌then◌else◌, List, get_or}
+use Rattle.std.specs.Prelude.{◌≡◌, ◌⊎◌, ℕ, ◌+◌, ◌*◌, ◌<◌, ◌≤◌, ◌==◌, if◌then◌else◌, List, length, get_or}
 use Rattle.niss_ways.specs.declared.way.Part.{Part}
 use Rattle.niss_ways.specs.declared.way.Way.{Way}
 
@@ -20,3 +20,13 @@ rank_of w =
 -- of the first n rows none has a greater rank than one behind it
 abbrev pub IsSorted : ℕ → List Way → Type 0
 IsSorted n rows = (i j : ℕ) (d : Way) → i < j → j < n → rank_of (get_or rows i d) ≤ rank_of (get_or rows j d)
+
+-- None of the first n rows has a greater rank than that.
+abbrev pub AreWithin : ℕ → ℕ → List Way → Type 0
+AreWithin rank n rows = (k : ℕ) (d : Way) → k < n → rank_of (get_or rows k d) ≤ rank
+
+-- Each of the first m rows that stood in a room stands there still, among n, or the room is full of rows none of which
+-- comes after it.
+abbrev pub AreKept : (m : ℕ) → List Way → (n : ℕ) → List Way → Type 0
+AreKept m old n new =
+    (j : ℕ) (d : Way) → j < m → ((k : ℕ) × (k < n) × (get_or new k d ≡ get_or old j d)) ⊎ ((n ≡ length new) × AreWithin (rank_of (get_or old j d)) n new)

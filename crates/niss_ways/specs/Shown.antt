@@ -66,6 +66,13 @@ pub record TellsTurns (names : List Face) (axis : Option Axis) (turns : List Tur
   pub each : take (length turns) told.turns ≡ map (shown names) turns
   pub behind : drop (length turns) told.turns ≡ drop (length turns) (replicate 20 255)
 
+-- no turns, and no moves of no step
+abbrev pub no_turns : SideTurns
+no_turns = record { count = 0; free = 0; turns = replicate 20 255 }
+
+abbrev pub no_part : Part
+no_part = record { step = 255; normal = no_turns; inverse = no_turns }
+
 -- A solution of a step is told.
 pub record Tells (names : List Face) (of_step : Step) (solution : Pair) (part : Part) : Type 0 where
   pub step : part.step ≡ step_number of_step

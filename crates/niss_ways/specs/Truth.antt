@@ -13,7 +13,7 @@ use Rattle.niss_cube.specs.declared.cube.coordinate.Coordinate.TheVariants.{Twis
 use Rattle.niss_cube.specs.declared.step.Goal.TheVariants.{Domino}
 use Rattle.niss_cube.specs.declared.step.Step.{Step}
 use Rattle.niss_search.specs.BothSides.{Pair, pair}
-use Rattle.niss_ways.specs.Shown.{Tells}
+use Rattle.niss_ways.specs.Shown.{Tells, no_part}
 use Rattle.niss_ways.specs.Ways.{cube_after, first_reaches}
 use Rattle.niss_ways.specs.declared.way.Way.{Way}
 
@@ -58,7 +58,7 @@ pub record IsInTwoSteps (o : Origin) (way : Way) : Type 0 where
 pub record IsInOneStep (o : Origin) (way : Way) : Type 0 where
   pub axis : Axis
   pub holds : IsTrue (reached (edge_step_on axis) (map_of o.cube))
-  pub none : way.eo.step ≡ 255
+  pub none : way.eo ≡ no_part
   pub reduction : IsReduction o axis (pair [] []) o.cube way
 
 abbrev pub IsWay : Origin → Way → Type 0
@@ -72,3 +72,7 @@ AreWays o n rows = (k : ℕ) (d : Way) → k < n → IsWay o (get_or rows k d)
 abbrev pub AreFrom : Way → (m : ℕ) → List Way → (n : ℕ) → List Way → Type 0
 AreFrom way m old n new =
     (k : ℕ) (d : Way) → k < n → (get_or new k d ≡ way) ⊎ ((j : ℕ) × (j < m) × (get_or new k d ≡ get_or old j d))
+
+-- Each of the first m rows that stood there is one of the first n.
+abbrev pub AreStill : (m : ℕ) → List Way → (n : ℕ) → List Way → Type 0
+AreStill m old n new = (j : ℕ) (d : Way) → j < m → (k : ℕ) × (k < n) × (get_or new k d ≡ get_or old j d)

@@ -1,7 +1,7 @@
 //! The best ways in a caller's room, in order.
-ghost use Rattle.std.specs.Prelude.{◌≡◌, ◌≤◌, ◌<◌, ◌+◌, length};
-ghost use Rattle.niss_ways.specs.Order.{IsSorted};
-ghost use Rattle.niss_ways.specs.Truth.{AreFrom};
+ghost use Rattle.std.specs.Prelude.{◌≡◌, ◌≤◌, ◌<◌, ◌+◌, ℕ, length};
+ghost use Rattle.niss_ways.specs.Order.{IsSorted, AreWithin, AreKept};
+ghost use Rattle.niss_ways.specs.Truth.{AreFrom, AreStill};
 
 use crate::way::Way;
 
@@ -11,6 +11,9 @@ pub fn take(room: &mut [Way], count: usize, way: Way) -> usize
     ensures from { AreFrom way count room.old result room.new }
     ensures sorted { IsSorted count room.old → IsSorted result room.new }
     ensures within { result ≤ length room.new }
+    ensures no_fewer { count ≤ length room.old → count ≤ result }
+    ensures kept { count ≤ length room.old → IsSorted count room.old → AreKept count room.old result room.new }
+    ensures no_worse { (rank : ℕ) → count ≡ length room.old → AreWithin rank count room.old → AreWithin rank result room.new }
     ensures length { length room.new ≡ length room.old }
 {
     let places = room.len();
@@ -31,6 +34,7 @@ pub fn take(room: &mut [Way], count: usize, way: Way) -> usize
 fn insert(room: &mut [Way], way: Way, count: usize)
     requires { count < length room.old }
     ensures from { AreFrom way count room.old (count + 1) room.new }
+    ensures still { AreStill count room.old (count + 1) room.new }
     ensures sorted { IsSorted count room.old → IsSorted (count + 1) room.new }
     ensures length { length room.new ≡ length room.old }
 {

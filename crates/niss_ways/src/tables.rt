@@ -1,8 +1,8 @@
 //! The tables of the nine steps on an axis.
-ghost use Rattle.std.specs.Prelude.{◌≡◌, MatchOption};
+ghost use Rattle.std.specs.Prelude.{◌≡◌, IfSome, MatchOption};
 ghost use Rattle.niss_cube.specs.declared.step.Step as steps;
 ghost use Rattle.niss_cube.specs.declared.step.Step.TheVariants.{Eofb, Eorl, Eoud, DrudEofb, DrrlEofb, DrudEorl, DrfbEorl, DrrlEoud, DrfbEoud};
-ghost use Rattle.niss_ways.specs.HeldTables.{AreThree, AreTables};
+ghost use Rattle.niss_ways.specs.HeldTables.{AreThree, AreTables, AreOf, AreAsked};
 
 use niss_cube::{Axis, Step};
 use niss_search::Tables;
@@ -51,13 +51,15 @@ pub trait HoldsTables {
 
     /// The tables, if they are those of this step.
     fn tables_of<'a>(&'a self, step: Step) -> Option<&'a Tables<Self::Alloc>>
-        ensures { MatchOption result (is_table self.now step → ⊥) (λ tables. is_table self.now step) };
+        ensures held { MatchOption result (is_table self.now step → ⊥) (λ tables. is_table self.now step) }
+        ensures of_step { IfSome result (λ tables. tables.now ≡ step) };
 }
 
 /// The tables on the axis of F and B, if they are these.
 fn tables_on_fb<'a, H: HoldsTables>(held: &'a [H; 9]) -> Option<AxisTables<'a, H::Alloc>>
-    ensures { MatchOption result (AreThree H.is_table held.now 0 3 4 Eofb DrudEofb DrrlEofb → ⊥)
+    ensures held { MatchOption result (AreThree H.is_table held.now 0 3 4 Eofb DrudEofb DrrlEofb → ⊥)
         (λ tables. AreThree H.is_table held.now 0 3 4 Eofb DrudEofb DrrlEofb) }
+    ensures of_steps { IfSome result (λ tables. AreOf tables Eofb DrudEofb DrrlEofb) }
 {
     Some(AxisTables {
         orientation: held[0].tables_of(Step::Eofb)?,
@@ -68,8 +70,9 @@ fn tables_on_fb<'a, H: HoldsTables>(held: &'a [H; 9]) -> Option<AxisTables<'a, H
 
 /// Those on the axis of R and L.
 fn tables_on_rl<'a, H: HoldsTables>(held: &'a [H; 9]) -> Option<AxisTables<'a, H::Alloc>>
-    ensures { MatchOption result (AreThree H.is_table held.now 1 5 6 Eorl DrudEorl DrfbEorl → ⊥)
+    ensures held { MatchOption result (AreThree H.is_table held.now 1 5 6 Eorl DrudEorl DrfbEorl → ⊥)
         (λ tables. AreThree H.is_table held.now 1 5 6 Eorl DrudEorl DrfbEorl) }
+    ensures of_steps { IfSome result (λ tables. AreOf tables Eorl DrudEorl DrfbEorl) }
 {
     Some(AxisTables {
         orientation: held[1].tables_of(Step::Eorl)?,
@@ -80,8 +83,9 @@ fn tables_on_rl<'a, H: HoldsTables>(held: &'a [H; 9]) -> Option<AxisTables<'a, H
 
 /// Those on the axis of U and D.
 fn tables_on_ud<'a, H: HoldsTables>(held: &'a [H; 9]) -> Option<AxisTables<'a, H::Alloc>>
-    ensures { MatchOption result (AreThree H.is_table held.now 2 7 8 Eoud DrrlEoud DrfbEoud → ⊥)
+    ensures held { MatchOption result (AreThree H.is_table held.now 2 7 8 Eoud DrrlEoud DrfbEoud → ⊥)
         (λ tables. AreThree H.is_table held.now 2 7 8 Eoud DrrlEoud DrfbEoud) }
+    ensures of_steps { IfSome result (λ tables. AreOf tables Eoud DrrlEoud DrfbEoud) }
 {
     Some(AxisTables {
         orientation: held[2].tables_of(Step::Eoud)?,
@@ -93,8 +97,9 @@ fn tables_on_ud<'a, H: HoldsTables>(held: &'a [H; 9]) -> Option<AxisTables<'a, H
 /// The tables of some axes, if they are there, in the order of the steps; the axes are 1 F and B, 2 R and L, and 4 U and D,
 /// added.
 pub fn tables_on<'a, H: HoldsTables>(held: &'a [H; 9], axes: u8) -> Option<WayTables<'a, H::Alloc>>
-    ensures { MatchOption result (AreTables H.is_table axes held.now → ⊥)
+    ensures held { MatchOption result (AreTables H.is_table axes held.now → ⊥)
         (λ tables. AreTables H.is_table axes held.now) }
+    ensures asked { IfSome result (AreAsked axes) }
 {
     let mut tables = WayTables {
         fb: None,

@@ -2,7 +2,7 @@
 ghost use Rattle.std.specs.Prelude.{◌≡◌, ◌+◌, ◌*◌, ◌<◌, ◌≤◌, length, slice_get};
 ghost use Rattle.niss_moves.specs.declared.turn.Face.{Face};
 ghost use Rattle.niss_cube.specs.Steps.{steps};
-ghost use Rattle.niss_ways.specs.Shown.{step_number, shown, Tells, TellsTurns};
+ghost use Rattle.niss_ways.specs.Shown.{step_number, shown, no_turns, no_part, Tells, TellsTurns};
 ghost use Rattle.niss_ways.specs.Order.{rank_of};
 ghost use Rattle.niss_search.specs.BothSides.{pair};
 
@@ -82,7 +82,9 @@ pub fn rank_by(total: u16, length: u16, pieces: u16, step: u8) -> u64
 
 impl SideTurns {
     /// No turn.
-    fn none() -> SideTurns {
+    fn none() -> SideTurns
+        ensures { result ≡ no_turns }
+    {
         SideTurns {
             count: 0,
             free: 0,
@@ -111,7 +113,7 @@ impl SideTurns {
 impl Part {
     /// No moves.
     pub(crate) fn none() -> Part
-        ensures { result.step ≡ 255 }
+        ensures { result ≡ no_part }
     {
         Part {
             step: NO_STEP,

@@ -5,7 +5,7 @@ use Rattle.niss_ways.specs.Order.{rank_of}
 use Rattle.niss_ways.specs.declared.way.Part.{Part}
 use Rattle.niss_ways.specs.declared.way.SideTurns.{SideTurns}
 use Rattle.niss_ways.specs.declared.way.Way.{Way}
-use Rattle.niss_ways.proofs.OrderLemmas.{Open, begun, shifted, closed_from, closed_sorted}
+use Rattle.niss_ways.proofs.OrderLemmas.{Open, begun, shifted, closed_from, closed_stay, closed_sorted}
 use Rattle.niss_ways.proofs.rows.insert.Goals as goal
 use Rattle.niss_ways.proofs.rows.insert.Goals.{else-loop-at-test, then-loop-at-test+then-rank}
 
@@ -43,6 +43,11 @@ loop-at-preserved c =
 pub returns-clause-from : goal.returns-clause-from
 returns-clause-from c =
     closed_from rank_of c.args.room.now c.args.count c.rank-rank.result c.loop-at.at c.loop-at.room c.args.way c.loop-at.invariant.free
+    (omega (arith, c.loop-at.invariant.same, c.loop-at.invariant.there)) c.rank-rank.ensures
+
+pub returns-clause-still : goal.returns-clause-still
+returns-clause-still c =
+    closed_stay rank_of c.args.room.now c.args.count c.rank-rank.result c.loop-at.at c.loop-at.room c.args.way c.loop-at.invariant.free
     (omega (arith, c.loop-at.invariant.same, c.loop-at.invariant.there)) c.rank-rank.ensures
 
 pub returns-clause-sorted : goal.returns-clause-sorted

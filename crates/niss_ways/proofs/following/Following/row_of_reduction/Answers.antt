@@ -1,10 +1,10 @@
-use Rattle.std.proofs.Common.{◌≡◌, sym, ap, ◌∙◌, subst, [], IsTrue}
+use Rattle.std.proofs.Common.{◌≡◌, sym, ◌∙◌, subst, [], IsTrue}
 use Rattle.niss_cube.specs.Map.{map_of}
 use Rattle.niss_cube.specs.Steps.{reached}
 use Rattle.niss_cube.specs.declared.cube.Cube.{Cube}
 use Rattle.niss_search.specs.BothSides.{Pair, pair}
+use Rattle.niss_ways.specs.Shown.{no_part}
 use Rattle.niss_ways.specs.Truth.{IsReduction}
-use Rattle.niss_ways.specs.declared.way.Part.{Part}
 use Rattle.niss_ways.proofs.TruthLemmas.{in_one_step, with_lengths}
 use Rattle.niss_ways.proofs.following.Following.row_of_reduction.Goals as goal
 
@@ -17,7 +17,7 @@ returns g c =
     let cube = c.cube-cube.result.now in
     let holds : IsTrue (reached step (map_of o.cube)) =
     subst (λ (k : Cube). IsTrue (reached step (map_of k))) c.cube-cube.ensures (sym c.reached.ensures.value ∙ c.if-not-reached.false) in
-    let none : way.eo.step ≡ 255 = ap (λ (e : Part). e.step) c.in_ok-way.ensures.eo ∙ c.none.ensures in
+    let none : way.eo ≡ no_part = c.in_ok-way.ensures.eo ∙ c.none.ensures in
     let first : IsReduction o edges (pair [] []) cube way = subst (λ (p : Pair). IsReduction o edges p cube way) c.of-nothing.ensures c.in_ok-way.ensures.reduction in
     let reduction : IsReduction o edges (pair [] []) o.cube way = subst (λ (k : Cube). IsReduction o edges (pair [] []) k way) c.cube-cube.ensures first in
     in_one_step o (record way { on_normal = c.args.on_normal; on_inverse = c.args.on_inverse }) edges step c.edge_step_on.ensures holds none

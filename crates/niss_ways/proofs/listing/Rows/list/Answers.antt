@@ -22,3 +22,4 @@ returns-clause-lists g c =
     (c.new-meter.result + c.from-most.result) ended.result ended.ensures.solutions c.new-meter.ensures
     (ap (λ (n : ℕ). c.new-meter.result + n) c.from-most.ensures) c.requires.empty c.requires.step c.requires.passed c.requires.counts
     (subst (λ (n : ℕ). EndsListing ended.result ended.new.sink.rows ended.new.sink.came n c.found.result) c.count.ensures c.found.ensures)
+    ended.ensures.spent
