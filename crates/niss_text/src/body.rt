@@ -13,7 +13,7 @@ fn behind_prime(text: &[u8]) -> Option<&[u8]>
         return None;
     }
     let sign = first_sign(text);
-    if sign.kind == Kind::Prime || sign.kind == Kind::Apostrophe {
+    if sign.kind.is_prime() {
         Some(trimmed(&text[sign.length..]))
     } else {
         None
@@ -86,10 +86,8 @@ fn ends_with_frame(text: &[u8]) -> bool {
 
 /// Whether the letter of a turn before a text is all of its move: no apostrophe, w or 2 follows.
 fn is_whole_move_before(text: &[u8]) -> bool {
-    let kind = first_kind(text);
-    let is_primed = kind == Kind::Prime || kind == Kind::Apostrophe;
     let is_longer = !text.is_empty() && matches!(text[0], b'w' | b'2');
-    !is_primed && !is_longer
+    !first_kind(text).is_prime() && !is_longer
 }
 
 /// What is after the first R' U' F of a text in which F is all of its move.

@@ -33,6 +33,13 @@ pub enum Kind {
     Other,
 }
 
+impl Kind {
+    /// Whether it is an apostrophe, of the grammar or not.
+    pub fn is_prime(self) -> bool {
+        self == Kind::Prime || self == Kind::Apostrophe
+    }
+}
+
 /// A sign, and how many bytes it has.
 #[derive(Clone, Copy)]
 pub struct Sign {

@@ -103,12 +103,7 @@ fn is_small_move(byte: u8) -> bool {
 
 /// Whether a sign may stand after the letter of a move.
 fn is_suffix(kind: Kind, byte: u8) -> bool {
-    byte == b'2' || is_prime(kind)
-}
-
-/// Whether a sign is an apostrophe.
-fn is_prime(kind: Kind) -> bool {
-    kind == Kind::Prime || kind == Kind::Apostrophe
+    byte == b'2' || kind.is_prime()
 }
 
 /// Whether a sign begins a letter.
@@ -225,10 +220,10 @@ impl Seen {
     /// With what is no letter, if the sign is none.
     fn with_sign(self, kind: Kind) -> Seen {
         let mut seen = self;
-        seen.has_prime = self.has_prime || is_prime(kind);
+        seen.has_prime = self.has_prime || kind.is_prime();
         seen.has_digit = self.has_digit || kind == Kind::Digit;
         seen.has_mark = self.has_mark
-            || !(is_prime(kind)
+            || !(kind.is_prime()
                 || kind == Kind::Digit
                 || kind == Kind::Capital
                 || kind == Kind::Small);
