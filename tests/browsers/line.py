@@ -265,7 +265,7 @@ def solved(tally: Tally, browser: Browser) -> None:
     for steps, said in (
         ("normal.R2", every),
         ("normal.U2", "Solved: 1 move."),
-        ("inverse.U~normal.U-", "Solved: 2 moves."),
+        ("inverse.U~normal.U-", "Solved: 2 moves, 1 without brackets."),
     ):
         browser.walk(tally, "steps", ("go", f"#scramble=U2&steps={steps}", {"finished": said}))
         tally.equal(
@@ -281,7 +281,10 @@ def premoves(tally: Tally, browser: Browser) -> None:
         ("normal.R-", "R'", ""),
         ("inverse.F", "F'", note),
         ("normal.R-~inverse.F", "R' F'", note),
-        ("normal.R-~inverse.F~normal.U-~normal.F", "R' U' F F'", ""),
+        ("normal.D_U", "D U", ""),
+        ("normal.R-_F~normal.F-", "R'", ""),
+        ("normal.R-_F~normal.F2~inverse.F", "R' F' F'", note),
+        ("normal.R-~inverse.F~normal.U-~normal.F", "R' U'", ""),
         ("normal.R-~inverse.F~normal.U-", "R' U' F'", note),
     ):
         browser.walk(

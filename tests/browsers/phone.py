@@ -265,6 +265,33 @@ def is_even(tally: Tally, browser: Browser) -> None:
     )
 
 
+def is_at_hand(tally: Tally, browser: Browser) -> None:
+    """After a DR the line comes before steps that give it up; a trigger is whole, what undoes it and its like stand on one line if there is room, and
+    nothing touches the edge of the screen; the inverse side's letter is no bar."""
+    tops = "return ['line', 'steps', 'kept'].map((each) => part(each).getBoundingClientRect().top)"
+    broken = """return all('#line-list :is(.trigger, .acts)').filter((each) => {
+        const range = document.createRange();
+        range.selectNodeContents(each);
+        const parts = each.matches('.acts') ? [...each.children] : [range];
+        return new Set(parts.flatMap((one) => [...one.getClientRects()]).map(({ top }) => Math.round(top))).size > 1;
+    }).map((each) => each.textContent)"""
+    edges = "return Math.min(...all('header *').filter((each) => each.checkVisibility()).map((each) => each.getBoundingClientRect().top))"
+    letter = "return getComputedStyle(document.querySelector('td.number'), '::before').fontFamily"
+    reduced = f"{address_of(LONGER)}&steps=inverse.B_D_R_F2_B_D~normal.R_B-_D2_R&kept=normal.R"
+    for width in (390, 360, 320):
+        browser.resize(width, 844, True)
+        browser.go(reduced)
+        browser.wait_best()
+        order = browser.script(tops)
+        tally.equal(f"{width}: line, steps, kept lines: {order}", order, sorted(order))
+        tally.equal(f"{width}: what is broken", browser.script(broken), [])
+        tally.holds(f"{width}: room above the header", browser.script(edges) >= 3)
+        browser.go(ADDRESS)
+        browser.wait_best()
+        tally.holds(f"{width}: a letter with serifs", "mono" in browser.script(letter).lower())
+    browser.resize(390, 844, True)
+
+
 def has_large_nets(tally: Tally, browser: Browser) -> None:
     """Large nets are seen and read, both of them, with what plays on them, and above the answer of Why?, of one axis or of each."""
     whole = """const [nets, player] = [part('net-inverse'), part('play-on')].map((each) => each.getBoundingClientRect());

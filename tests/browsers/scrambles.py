@@ -37,7 +37,7 @@ def keeps_each(tally: Tally, browser: Browser) -> None:
     browser.walk(
         tally,
         "the first one",
-        ("submit", "own", "D L", {}),
+        ("submit", "own", "D (L)", {}),
         ("comes", "steps", 1, {}),
         ("act", "#keep-line", {}),
         ("script", NOTE, "good", {CHIPS: ["1 ★1", "2", "3"]}),
@@ -58,7 +58,7 @@ def keeps_each(tally: Tally, browser: Browser) -> None:
     browser.walk(
         tally,
         "back to the first one",
-        ("act", chip(1), {"hash": first, KEPT: ["D L"], "bracketed": "D L", "solutions?": True}),
+        ("act", chip(1), {"hash": first, KEPT: ["D (L)"], "bracketed": "D (L)", "solutions?": True}),
         ("script", "history.back()", {}),
         ("comes", "hash", second, {SHOWN: ["2 ★1"], KEPT: ["B (U)"]}),
     )
@@ -76,7 +76,7 @@ def keeps_each(tally: Tally, browser: Browser) -> None:
         ("act", chip(2), {"hash": second, KEPT: ["B (U)"], "welcome?": False}),
         ("act", "#desk-new", {"focus": "scramble", "hash": "", "scramble=": "", "welcome?": True}),
         ("script", PASTE, "R U F", {}),
-        ("comes", "bracketed", "D L", {SHOWN: ["1 ★1"], KEPT: ["D L"]}),
+        ("comes", "bracketed", "D (L)", {SHOWN: ["1 ★1"], KEPT: ["D (L)"]}),
     )
 
 
@@ -111,7 +111,7 @@ def drops_what_is_drawn(tally: Tally, browser: Browser) -> None:
         ("comes", SHOWN, ["1"], {}),
         ("script", "window.goOn()", {}),
         # what is asked after it is answered after it
-        ("submit", "own", "D L", {}),
+        ("submit", "own", "D (L)", {}),
         ("comes", "steps", 1, {CHIPS: ["1", "2", "3"], SHOWN: ["1"], "scramble=": "R U F"}),
         ("script", HELD % "scrambleOf", {}),
         ("act", "#random", {SHOWN: ["1"]}),
@@ -135,13 +135,13 @@ def keeps_what_back_leaves(tally: Tally, browser: Browser) -> None:
         ("comes", "steps", 2, {}),
         ("act", "#keep-line", {"kept": 2}),
         ("script", "history.go(-2)", {}),
-        ("comes", "steps", 0, {KEPT: ["D", "D L"]}),
+        ("comes", "steps", 0, {KEPT: ["D", "D (L)"]}),
         ("follow", "#scramble=R_U_F&steps=normal.B&kept=normal.B2", {}),
         # they stand in order once each is known
-        ("comes", KEPT, ["D", "B2", "D L"], {"bracketed": "B", CHIPS: ["1 ★3", "2", "3"]}),
+        ("comes", KEPT, ["D", "B2", "D (L)"], {"bracketed": "B", CHIPS: ["1 ★3", "2", "3"]}),
         ("follow", "#scramble=R_U_F", {"bracketed": "B", "kept": 3}),
         ("follow", "#scramble=R_U_F&steps=normal.F", {"bracketed": "F"}),
-        ("comes", KEPT, ["D", "B2", "B", "D L"], {}),
+        ("comes", KEPT, ["D", "B2", "B", "D (L)"], {}),
     )
 
 
@@ -239,6 +239,39 @@ def copies(tally: Tally, browser: Browser) -> None:
         ("comes", CHIPS, ["1 ★2", "2", "3"], {KEPT: ["B", "D (L)"]}),
     )
     browser.no_longer(stub)
+
+
+def reads_edits(tally: Tally, browser: Browser) -> None:
+    """Of kept lines that were copied and edited the lines count, and not the address below them; the address does if they say the same."""
+    copied = """R U F
+
+(B) // (1)
+
+D // (1)
+(L) // (1/2)
+// a note
+
+F' // EO F/B (1)
+R2 U // DR U/D (2/3)
+// DR U/D 4c2e: 2 normal, 3 inverse, 3 with the line
+
+#scramble=R_U_F&kept=normal.D~inverse.L;a_note,inverse.B,normal.F-;;drud-eofb
+"""
+    same = ["F'", "(B)", "D (L)"]
+    for what, old, new, scramble, kept in (
+        ("nothing", "", "", "R U F", same),
+        ("the note", "a note", "R2 // another", "R U F", same),
+        ("moves", "(B) //", "(B' D) //", "R U F", ["F' R2 U", "D (L)", "(B' D)"]),
+        ("moves at the end", "(L) //", "(L) R //", "R U F", ["F' R2 U", "(B)", "D R (L)"]),
+        ("a line that is gone", "D // (1)\n(L) // (1/2)\n// a note\n\n", "", "R U F", ["F' R2 U", "(B)"]),
+        ("a line more", "(B) // (1)\n\n", "(B)\n\nL2\n\n", "R U F", ["F' R2 U", "(B)", "L2", "D (L)"]),
+        ("the scramble", "R U F\n\n", "R U F2\n\n", "R U F2", ["(B)", "D (L)", "F' R2 U"]),
+    ):
+        browser.open()
+        browser.script(PASTE, copied.replace(old, new) if old else copied)
+        tally.holds(f"{what} is edited: as many lines", browser.comes("kept", len(kept)))
+        found = sorted(browser.look(KEPT)), browser.value("scramble"), browser.text("scramble-read")
+        tally.equal(f"{what} is edited: lines, scramble, what is left out", found, (sorted(kept), scramble, ""))
 
 
 def says_what_is_refused(tally: Tally, browser: Browser) -> None:

@@ -14,8 +14,7 @@ import type { TextCalls } from "./text-calls.js";
 /** Forms of a solution as `formPlaces` tells them, and where they stand in the text. */
 export type FormInText = Pick<FormPlace, "text" | "forms"> & { place: TextPlace };
 
-/** An attempt of a text with what the module says of its scramble and solution, null if nothing; `place` is that of a
- * fault. What is seen of many stands in one array. */
+/** An attempt of a text with what the module says of it, null if nothing, in an array of many; `place`: of a fault. */
 export type SeenAttempt = {
   attempt: Attempt;
   seen: Seen | OfTwo | null;

@@ -9,8 +9,7 @@ import { Cuts, type PlainLine, type WrittenLine, type WrittenText } from "./writ
 
 const LINE_READ = TEXT_LINE.read;
 
-/** What the module tells of a line of a text, by the names of its struct, each read when it is asked for; and which it
- * is, from 0. */
+/** What the module tells of a line of a text, by the names of its struct, read when asked for; and which, from 0. */
 export type TextLine = { nth: number } & Record<keyof typeof LINE_READ, number>;
 
 class LineOfText {
@@ -116,8 +115,7 @@ export class TextCalls {
     return this.between(0, this.#count);
   }
 
-  /** What is said of each attempt, as the module has it; or of each known scramble, as if it had no solution, and then
-   * of each part of a text that has only solutions of these. */
+  /** What is said of each attempt, as the module has it; or of each known scramble, then of each part of the text. */
   checked(known?: string[]): Uint8Array {
     const scrambles = (known ?? []).map(encoded);
     if (known === undefined) this.lines();

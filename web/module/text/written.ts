@@ -112,8 +112,7 @@ export class TextPlaces {
   }
 }
 
-/** The unit at which a fault or a form of a plain line stands in the text that it is of. What isn't at a sign of the
- * line is at its end. */
+/** The unit at which a fault or a form of a plain line stands in its text: at the end if not at a sign of the line. */
 export const unitOf = (character: number, { places }: PlainLine) =>
   places[character - 1] ?? (places.length === 0 ? 0 : places[places.length - 1] + 1);
 
