@@ -154,6 +154,15 @@ def other_side(tally: Tally, browser: Browser) -> None:
         )
 
 
+def shares_lines(tally: Tally, browser: Browser) -> None:
+    """What a step is changed by stands beside its last words, if there is room."""
+    places = """const [moves, words, acts] = ['.moves', '.otherwise', '.acts'].map((name) =>
+            document.querySelector(`#line-list ${name}`).getBoundingClientRect());
+        return [words.top >= moves.bottom - 5, acts.top < words.bottom, words.right <= acts.left]"""
+    long = "#scramble=R_U_F&steps=normal.R_U_F_L_B_D_R_U_F_L_B_D"
+    browser.walk(tally, "a step whose words have two lines", ("go", long, {places: [True, True, True]}))
+
+
 def by_keys(tally: Tally, browser: Browser) -> None:
     """Single keys, where nothing is typed, and their switch."""
     browser.open(ADDRESS)

@@ -265,10 +265,8 @@ def is_even(tally: Tally, browser: Browser) -> None:
     )
 
 
-def is_at_hand(tally: Tally, browser: Browser) -> None:
-    """After a DR the line comes before steps that give it up; a trigger is whole, what undoes it and its like stand on one line if there is room, and
-    nothing touches the edge of the screen; the inverse side's letter is no bar."""
-    tops = "return ['line', 'steps', 'kept'].map((each) => part(each).getBoundingClientRect().top)"
+def is_read(tally: Tally, browser: Browser) -> None:
+    """A trigger is whole, what changes a step stands on one line, nothing touches the edge of the screen, and the inverse side's letter is no bar."""
     broken = """return all('#line-list :is(.trigger, .acts)').filter((each) => {
         const range = document.createRange();
         range.selectNodeContents(each);
@@ -277,13 +275,10 @@ def is_at_hand(tally: Tally, browser: Browser) -> None:
     }).map((each) => each.textContent)"""
     edges = "return Math.min(...all('header *').filter((each) => each.checkVisibility()).map((each) => each.getBoundingClientRect().top))"
     letter = "return getComputedStyle(document.querySelector('td.number'), '::before').fontFamily"
-    reduced = f"{address_of(LONGER)}&steps=inverse.B_D_R_F2_B_D~normal.R_B-_D2_R&kept=normal.R"
+    scramble = "R' U' F U2 F' L B D2 R2 D R2 U' D' R B2 D' B R' F U2 F2 R' U' F"
     for width in (390, 360, 320):
         browser.resize(width, 844, True)
-        browser.go(reduced)
-        browser.wait_best()
-        order = browser.script(tops)
-        tally.equal(f"{width}: line, steps, kept lines: {order}", order, sorted(order))
+        browser.go(f"{address_of(scramble)}&steps=inverse.L_F_U-_D2_B~normal.D_R-_U_R2_F2_L2_B2_D")
         tally.equal(f"{width}: what is broken", browser.script(broken), [])
         tally.holds(f"{width}: room above the header", browser.script(edges) >= 3)
         browser.go(ADDRESS)

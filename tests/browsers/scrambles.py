@@ -37,7 +37,7 @@ def keeps_each(tally: Tally, browser: Browser) -> None:
     browser.walk(
         tally,
         "the first one",
-        ("submit", "own", "D (L)", {}),
+        ("submit", "own", "D L", {}),
         ("comes", "steps", 1, {}),
         ("act", "#keep-line", {}),
         ("script", NOTE, "good", {CHIPS: ["1 ★1", "2", "3"]}),
@@ -58,7 +58,7 @@ def keeps_each(tally: Tally, browser: Browser) -> None:
     browser.walk(
         tally,
         "back to the first one",
-        ("act", chip(1), {"hash": first, KEPT: ["D (L)"], "bracketed": "D (L)", "solutions?": True}),
+        ("act", chip(1), {"hash": first, KEPT: ["D L"], "bracketed": "D L", "solutions?": True}),
         ("script", "history.back()", {}),
         ("comes", "hash", second, {SHOWN: ["2 ★1"], KEPT: ["B (U)"]}),
     )
@@ -76,7 +76,7 @@ def keeps_each(tally: Tally, browser: Browser) -> None:
         ("act", chip(2), {"hash": second, KEPT: ["B (U)"], "welcome?": False}),
         ("act", "#desk-new", {"focus": "scramble", "hash": "", "scramble=": "", "welcome?": True}),
         ("script", PASTE, "R U F", {}),
-        ("comes", "bracketed", "D (L)", {SHOWN: ["1 ★1"], KEPT: ["D (L)"]}),
+        ("comes", "bracketed", "D L", {SHOWN: ["1 ★1"], KEPT: ["D L"]}),
     )
 
 
@@ -111,7 +111,7 @@ def drops_what_is_drawn(tally: Tally, browser: Browser) -> None:
         ("comes", SHOWN, ["1"], {}),
         ("script", "window.goOn()", {}),
         # what is asked after it is answered after it
-        ("submit", "own", "D (L)", {}),
+        ("submit", "own", "D L", {}),
         ("comes", "steps", 1, {CHIPS: ["1", "2", "3"], SHOWN: ["1"], "scramble=": "R U F"}),
         ("script", HELD % "scrambleOf", {}),
         ("act", "#random", {SHOWN: ["1"]}),
@@ -135,13 +135,13 @@ def keeps_what_back_leaves(tally: Tally, browser: Browser) -> None:
         ("comes", "steps", 2, {}),
         ("act", "#keep-line", {"kept": 2}),
         ("script", "history.go(-2)", {}),
-        ("comes", "steps", 0, {KEPT: ["D", "D (L)"]}),
+        ("comes", "steps", 0, {KEPT: ["D", "D L"]}),
         ("follow", "#scramble=R_U_F&steps=normal.B&kept=normal.B2", {}),
         # they stand in order once each is known
-        ("comes", KEPT, ["D", "B2", "D (L)"], {"bracketed": "B", CHIPS: ["1 ★3", "2", "3"]}),
+        ("comes", KEPT, ["D", "B2", "D L"], {"bracketed": "B", CHIPS: ["1 ★3", "2", "3"]}),
         ("follow", "#scramble=R_U_F", {"bracketed": "B", "kept": 3}),
         ("follow", "#scramble=R_U_F&steps=normal.F", {"bracketed": "F"}),
-        ("comes", KEPT, ["D", "B2", "B", "D (L)"], {}),
+        ("comes", KEPT, ["D", "B2", "B", "D L"], {}),
     )
 
 
