@@ -1,4 +1,6 @@
 """What a candidate leads to: how many reductions follow it on each side, and lists over both sides."""
+from collections import Counter
+
 from best import DETAILS, LONGER, ROWS, SCRAMBLE, address_of
 from browser import Browser
 from program import program_answers, program_lists
@@ -74,5 +76,12 @@ def over_both(tally: Tally, browser: Browser) -> None:
     browser.wait()
     tally.equal("another side is chosen", browser.listed(), Position(LONGER).solutions("eofb", "inverse"))
     browser.go(address_of(LONGER) + "&list=eofb.both.0")
-    classes = {tuple(twin_key(moves, "eofb") for moves in pair) for pair in pairs}
+    classes = Counter(tuple(twin_key(moves, "eofb") for moves in pair) for pair in pairs)
     tally.equal("twins have one row", (len(browser.listed()), len(pairs) > len(classes)), (len(classes), True))
+    words = [" ".join(each.split()) for each in browser.texts("#solutions-groups .twins")]
+    tally.equal(
+        "of several it is said how many",
+        sorted(each if each.startswith("or ") else "/" for each in words),
+        sorted("/" if count == 2 else f"or {count - 1} twins" for count in classes.values() if count > 1),
+    )
+    tally.holds("there are some", any(each.startswith("or ") for each in words))

@@ -48,6 +48,34 @@ def stands_beside(tally: Tally, browser: Browser) -> None:
     )
 
 
+# at how many places numbers end, and those who don't stand beside their moves
+NUMBERS = """const ends = all('#kept-list .total').map(({ firstChild }) => {
+        const range = document.createRange();
+        range.setStart(firstChild, 0);
+        range.setEnd(firstChild, firstChild.data.indexOf(' '));
+        return Math.round(range.getBoundingClientRect().right);
+    });
+    return new Set(ends).size"""
+BESIDE = """return all('#kept-list li').filter((each) => {
+        const [number, moves] = ['.total', '.moves'].map((name) => each.querySelector(name).getClientRects()[0]);
+        return number.right > moves.left || Math.abs(number.bottom - moves.bottom) > 4;
+    }).map((each) => each.textContent)"""
+
+
+def has_a_column(tally: Tally, browser: Browser) -> None:
+    """The numbers of moves of what is kept stand in one column, each beside its moves."""
+    steps = "inverse.B_D_R_F2_B_D~normal.R_B-~normal.D2_R"
+    lines = f"{ADDRESS}&kept={steps},inverse.B_D_R_F2_B_D;;drfb-eoud,normal.R-_U_F-_R_L,normal.R~normal.U2_F2_D2_L2_D2_L2_U2_R2"
+    for width in (1280, 390, 320, 1920):
+        browser.resize(width, 900)
+        browser.walk(
+            tally,
+            f"{width}: of one figure and of two",
+            ("go", lines, {}),
+            ("until", KEPT_SAID, {NUMBERS: 1, BESIDE: [], "n #kept-list .total": 4}),
+        )
+
+
 def undoes(tally: Tally, browser: Browser) -> None:
     """What is taken away comes back with its note in its place, until something else changes."""
     browser.resize()

@@ -330,7 +330,7 @@ def keeps_stages(tally: Tally, browser: Browser) -> None:
         [*oriented, *reduced, "10 in all"],
         [*oriented, *reduced, "10 in all"],
         [*oriented, *reduced, "(F2)", "11 in all"],
-        ["(B D)", "2 moves"],
+        ["(B D)", "2 in all"],
     ]
     tally.equal(
         "each step with what it reaches",
@@ -339,13 +339,13 @@ def keeps_stages(tally: Tally, browser: Browser) -> None:
     )
     both = ["(B D R)", "R2", "(F2 B D)", "EO U/D", "R2 R B' D2 R", "DR F/B"]
     tally.equal("an orientation on both sides", shown(example, apart)[0][:-1], both)
-    tally.equal("one that held before", shown("#scramble=U_R", "normal.R-"), [["R'", "DR U/D", "1 move"]])
+    tally.equal("one that held before", shown("#scramble=U_R", "normal.R-"), [["R'", "DR U/D", "1 in all"]])
     # U keeps the DR on its axis, and the other U brings both others back
     again = ["U R2", "(U)", "DR R/L", "DR F/B", "3 in all"]
     tally.equal("what held all the time isn't reached", shown("#scramble=U2", "normal.U_R2~inverse.U"), [again])
-    tally.equal("one that solves", shown("#scramble=F", "normal.F-"), [["F'", "solved", "1 move"]])
+    tally.equal("one that solves", shown("#scramble=F", "normal.F-"), [["F'", "solved", "1 in all"]])
     tally.equal(
-        "two that are reached at once", shown("#scramble=U2_F", "normal.F-"), [["F'", "DR U/D", "DR R/L", "1 move"]]
+        "two that are reached at once", shown("#scramble=U2_F", "normal.F-"), [["F'", "DR U/D", "DR R/L", "1 in all"]]
     )
 
 

@@ -154,6 +154,15 @@ def other_side(tally: Tally, browser: Browser) -> None:
         )
 
 
+def shares_lines(tally: Tally, browser: Browser) -> None:
+    """What a step is changed by stands beside its last words, if there is room."""
+    places = """const [moves, words, acts] = ['.moves', '.otherwise', '.acts'].map((name) =>
+            document.querySelector(`#line-list ${name}`).getBoundingClientRect());
+        return [words.top >= moves.bottom - 5, acts.top < words.bottom, words.right <= acts.left]"""
+    long = "#scramble=R_U_F&steps=normal.R_U_F_L_B_D_R_U_F_L_B_D"
+    browser.walk(tally, "a step whose words have two lines", ("go", long, {places: [True, True, True]}))
+
+
 def by_keys(tally: Tally, browser: Browser) -> None:
     """Single keys, where nothing is typed, and their switch."""
     browser.open(ADDRESS)
@@ -265,7 +274,7 @@ def solved(tally: Tally, browser: Browser) -> None:
     for steps, said in (
         ("normal.R2", every),
         ("normal.U2", "Solved: 1 move."),
-        ("inverse.U~normal.U-", "Solved: 2 moves."),
+        ("inverse.U~normal.U-", "Solved: 2 moves, 1 without brackets."),
     ):
         browser.walk(tally, "steps", ("go", f"#scramble=U2&steps={steps}", {"finished": said}))
         tally.equal(
@@ -281,7 +290,10 @@ def premoves(tally: Tally, browser: Browser) -> None:
         ("normal.R-", "R'", ""),
         ("inverse.F", "F'", note),
         ("normal.R-~inverse.F", "R' F'", note),
-        ("normal.R-~inverse.F~normal.U-~normal.F", "R' U' F F'", ""),
+        ("normal.D_U", "D U", ""),
+        ("normal.R-_F~normal.F-", "R'", ""),
+        ("normal.R-_F~normal.F2~inverse.F", "R' F' F'", note),
+        ("normal.R-~inverse.F~normal.U-~normal.F", "R' U'", ""),
         ("normal.R-~inverse.F~normal.U-", "R' U' F'", note),
     ):
         browser.walk(

@@ -73,9 +73,9 @@ def says_all(tally: Tally, browser: Browser) -> None:
     browser.open(ADDRESS.split("&list")[0].replace("~normal.R_B-", ""))
     browser.wait_best()
     tally.equal("the heading", browser.text("best-heading"), "Best ways on")
-    tally.holds(
-        f"more of them: {browser.text('best-more')}", re.fullmatch(r"Show more of [0-9,]+", browser.text("best-more"))
-    )
+    # how many there are is said above
+    tally.equal("more of them", browser.text("best-more"), "Show more")
+    tally.holds(f"of how many: {browser.text('best-note')}", re.match(r"[0-9,]+ rows\.", browser.text("best-note")))
     rows = browser.script(
         """return seen('#best-body tr').map((each) => [getComputedStyle(each.querySelector('.axis'), '::after').content,
         each.querySelector('.take').ariaLabel])"""

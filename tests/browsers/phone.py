@@ -265,6 +265,28 @@ def is_even(tally: Tally, browser: Browser) -> None:
     )
 
 
+def is_read(tally: Tally, browser: Browser) -> None:
+    """A trigger is whole, what changes a step stands on one line, nothing touches the edge of the screen, and the inverse side's letter is no bar."""
+    broken = """return all('#line-list :is(.trigger, .acts)').filter((each) => {
+        const range = document.createRange();
+        range.selectNodeContents(each);
+        const parts = each.matches('.acts') ? [...each.children] : [range];
+        return new Set(parts.flatMap((one) => [...one.getClientRects()]).map(({ top }) => Math.round(top))).size > 1;
+    }).map((each) => each.textContent)"""
+    edges = "return Math.min(...all('header *').filter((each) => each.checkVisibility()).map((each) => each.getBoundingClientRect().top))"
+    letter = "return getComputedStyle(document.querySelector('td.number'), '::before').fontFamily"
+    scramble = "R' U' F U2 F' L B D2 R2 D R2 U' D' R B2 D' B R' F U2 F2 R' U' F"
+    for width in (390, 360, 320):
+        browser.resize(width, 844, True)
+        browser.go(f"{address_of(scramble)}&steps=inverse.L_F_U-_D2_B~normal.D_R-_U_R2_F2_L2_B2_D")
+        tally.equal(f"{width}: what is broken", browser.script(broken), [])
+        tally.holds(f"{width}: room above the header", browser.script(edges) >= 3)
+        browser.go(ADDRESS)
+        browser.wait_best()
+        tally.holds(f"{width}: a letter with serifs", "mono" in browser.script(letter).lower())
+    browser.resize(390, 844, True)
+
+
 def has_large_nets(tally: Tally, browser: Browser) -> None:
     """Large nets are seen and read, both of them, with what plays on them, and above the answer of Why?, of one axis or of each."""
     whole = """const [nets, player] = [part('net-inverse'), part('play-on')].map((each) => each.getBoundingClientRect());

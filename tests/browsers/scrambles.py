@@ -241,6 +241,39 @@ def copies(tally: Tally, browser: Browser) -> None:
     browser.no_longer(stub)
 
 
+def reads_edits(tally: Tally, browser: Browser) -> None:
+    """Of kept lines that were copied and edited the lines count, and not the address below them; the address does if they say the same."""
+    copied = """R U F
+
+(B) // (1)
+
+D // (1)
+(L) // (1/2)
+// a note
+
+F' // EO F/B (1)
+R2 U // DR U/D (2/3)
+// DR U/D 4c2e: 2 normal, 3 inverse, 3 with the line
+
+#scramble=R_U_F&kept=normal.D~inverse.L;a_note,inverse.B,normal.F-;;drud-eofb
+"""
+    same = ["F'", "(B)", "D (L)"]
+    for what, old, new, scramble, kept in (
+        ("nothing", "", "", "R U F", same),
+        ("the note", "a note", "R2 // another", "R U F", same),
+        ("moves", "(B) //", "(B' D) //", "R U F", ["F' R2 U", "D (L)", "(B' D)"]),
+        ("moves at the end", "(L) //", "(L) R //", "R U F", ["F' R2 U", "(B)", "D R (L)"]),
+        ("a line that is gone", "D // (1)\n(L) // (1/2)\n// a note\n\n", "", "R U F", ["F' R2 U", "(B)"]),
+        ("a line more", "(B) // (1)\n\n", "(B)\n\nL2\n\n", "R U F", ["F' R2 U", "(B)", "L2", "D (L)"]),
+        ("the scramble", "R U F\n\n", "R U F2\n\n", "R U F2", ["(B)", "D (L)", "F' R2 U"]),
+    ):
+        browser.open()
+        browser.script(PASTE, copied.replace(old, new) if old else copied)
+        tally.holds(f"{what} is edited: as many lines", browser.comes("kept", len(kept)))
+        found = sorted(browser.look(KEPT)), browser.value("scramble"), browser.text("scramble-read")
+        tally.equal(f"{what} is edited: lines, scramble, what is left out", found, (sorted(kept), scramble, ""))
+
+
 def says_what_is_refused(tally: Tally, browser: Browser) -> None:
     """If the browser keeps nothing, that is said, and the desk lasts as long as the page."""
     browser.open()

@@ -30,9 +30,8 @@ PLACES_AFTER = """const [name, value, selectors] = arguments;
         const { left, top } = (part.matches('figcaption') ? range : part).getBoundingClientRect();
         return [Math.round(left), Math.round(top)];
     });"""
-COUNTED = """const [text, hidden] = arguments;
-    const more = part('best-more');
-    Object.assign(more, { textContent: text, hidden });
+COUNTED = """const more = part('best-more');
+    more.hidden = arguments[0];
     const { left } = part('best-clear').getBoundingClientRect();
     const { right, height } = more.getBoundingClientRect();
     return [left, right, height].map(Math.round);"""
@@ -142,13 +141,10 @@ def takes(tally: Tally, browser: Browser, width: int) -> None:
 
 
 def stands(tally: Tally, browser: Browser, width: int) -> None:
-    """Neither the count of the best nor a list that is looked for, marks or a move that is played move what stands beside them."""
+    """Neither what shows more of the best nor a list that is looked for, marks or a move that is played move what stands beside them."""
     browser.choose("best-axis", "EO F/B")
-    counts = [
-        browser.script(COUNTED, *shown)
-        for shown in (("Show more of 7", False), ("Show more of 10,000", False), ("Show more of 7", True))
-    ]
-    tally.equal(f"{width}: beside the count of the best", counts, counts[:1] * len(counts))
+    counts = [browser.script(COUNTED, is_hidden) for is_hidden in (False, True)]
+    tally.equal(f"{width}: beside what shows more of the best", counts, counts[:1] * len(counts))
     browser.choose("best-axis", "")
     browser.go(SCRAMBLE + "&steps=inverse.B_D_R_F2_B_D~normal.R_B-~normal.D2_R&list=eofb.normal.0")
     of_list = ["[popovertarget=help-list]", "#list-filters", "#solutions-note"]

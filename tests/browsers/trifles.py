@@ -62,6 +62,18 @@ def sets_up(tally: Tally, browser: Browser) -> None:
         ("script", "dispatchEvent(new Event('afterprint'))", {"n #kept-list details[open]": 0}),
         ("act", LAST_STEP_AWAY, {"set-ups?": False}),
     )
+    # premoves, scramble and moves are read off, though they cancel where they meet
+    wanted = ["U' R' R' U' F F D", "D' F' F' U R R U"]
+    apart = {"#set-ups output": wanted, "#kept-list dl output": wanted}
+    browser.walk(
+        tally,
+        "each as it is written",
+        ("go", "#scramble=R-_U-_F&steps=inverse.R_U~normal.F_D&kept=inverse.R_U~normal.F_D", {}),
+        ("comes", "n #kept-list dl", 1, apart),
+        ("go", "#scramble=R-_U-_F&steps=normal.D_U", {"#set-ups output": ["R' U' F D U", "U' D' F' U R"]}),
+        # a wide turn of R is one of L that turns the cube, by which F comes to U
+        ("go", "#scramble=Rw_L-_U&steps=normal.U-", {"#set-ups output": ["F U'", "U F'"]}),
+    )
 
 
 def marks_what_is_pointed_at(tally: Tally, browser: Browser) -> None:

@@ -9,8 +9,7 @@ export * from "./nissy.js";
 const SCRIPT = "worker.js";
 const place = () => new URL(SCRIPT, import.meta.url).href;
 
-/** Where a script of the page's own stands that imports the one of another origin, from which browsers start no worker:
- * one for all starts. */
+/** Where the one script of the page's own stands that imports another origin's, from which browsers start no worker. */
 let importing: string | null = null;
 
 /** A worker whose script stands beside this file, on the page's server or on another one. */
@@ -31,10 +30,8 @@ function workersBy(made: () => Worker) {
 
 /** The engine in a worker. */
 export class NissyWorker extends WorkerCalls {
-  /** Starts the engine. Rejects with `NoWebAssembly` if the host runs none, and with `EngineMissing` if the worker
-   * can't be started.
-   * @param made makes a worker that runs `nissy/worker-script`, of which a bundle has a copy; without it the script
-   * that stands beside this file is run */
+  /** Starts the engine. Rejects with `NoWebAssembly` if the host runs none, with `EngineMissing` if no worker starts.
+   * @param made makes a worker that runs `nissy/worker-script`; else the script that stands beside this file is run */
   static async start(
     source: ModuleSource | Promise<ModuleSource>, made: () => Worker = besideThis,
   ): Promise<NissyWorker> {

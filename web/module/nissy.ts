@@ -27,8 +27,7 @@ export { placeOf } from "./text/written.js";
 /** The version of the scripts, and of the module that comes with them. */
 export const VERSION = "2.0.0";
 
-/** The engine, loaded. After a call that broke off the next one starts the module anew, or throws `EngineMissing` if
- * that can't be done. */
+/** The engine, loaded. After a call that broke off the next one starts the module anew, or throws `EngineMissing`. */
 export class Nissy {
   #engine: Engine;
 

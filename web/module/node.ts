@@ -39,8 +39,7 @@ export const loadNissy = async (source: ModuleSource | Promise<ModuleSource> = b
 
 /** The engine in a thread. */
 export class NissyWorker extends WorkerCalls {
-  /** Starts the engine, by the module beside this file if no other is given. Rejects with `EngineMissing` if the thread
-   * can't be started. */
+  /** Starts the engine, by the module beside this file if no other is given. `EngineMissing`: no thread can start. */
   static async start(source: ModuleSource | Promise<ModuleSource> = besideThis()): Promise<NissyWorker> {
     return super.startBy(source, newThread);
   }

@@ -13,8 +13,7 @@ import { formPlacesOf, tokensOf } from "../text/tokens.js";
 import { plainIn } from "../text/written.js";
 import type { Calls } from "./calls.js";
 
-/** `options`: the names of its own; of many lines each reply is read by `one`; `isFollowed`: one reply may take so long
- * that its progress is told. */
+/** `options`: the names of its own; `one` reads each reply of many lines; `isFollowed`: the progress of one is told. */
 export type Row = {
   takes: number;
   options?: readonly string[];

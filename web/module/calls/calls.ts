@@ -40,11 +40,9 @@ export interface Calls<Time extends When> {
   /** The 54 letters of the cube after a line's moves, as the program's `print` shows them. */
   facelets(line: Text, ...rest: Rest<Time>): Answered<Time, string>;
   tokens(line: Text, ...rest: Rest<Time>): Answered<Time, Token[]>;
-  /** Where a line has forms that the WCA's notation for solutions hasn't: those of its places together are the `forms`
-   * of `check`. */
+  /** Where a line has forms that the WCA's notation for solutions hasn't: those of all places are `check`'s `forms`. */
   formPlaces(line: Text, ...rest: Rest<Time>): Answered<Time, FormPlace[]>;
-  /** The solutions of a step after a line's moves, by length and then in turn order; with `sides` those on these sides
-   * of the line, each with its moves on both. */
+  /** The solutions of a step after a line, by length, then in turn order; with `sides` each has the moves of both. */
   solve<Name extends string, On extends Sides | undefined = undefined>(
     step: StepName<Name>, line: Text, options?: Wanted & OnSides<On> & Besides<Time>,
   ): Answered<Time, SolutionsOn<On>>;
@@ -83,8 +81,7 @@ export interface Calls<Time extends When> {
   checkAttempts(text: string, options?: Known & Besides<Time>): Answered<Time, AttemptCheck[]>;
   /** The line of the cube at which a solver stands after a scramble and the moves so far, for the calls on one line:
    * face turns, named by the centres, with the moves in brackets inverted before the scramble. They name the faces as
-   * the moves outside brackets leave the cube, as `best` reads them. The `invert` of the line is that of the inverse
-   * side. */
+   * the moves outside brackets leave the cube, as `best` reads them. Its `invert` is the line of the inverse side. */
   lineAfter(scramble: Text, soFar?: Text, ...rest: Rest<Time>): Answered<Time, string>;
   /** What may follow a scramble and the moves so far, the best first: each shortest orientation over both sides with
    * the best reduction on each axis that may follow it, over both sides too, or the reductions, if an orientation

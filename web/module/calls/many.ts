@@ -1,13 +1,11 @@
-// What is asked of many lines, and what is told of them: a value of each, or a fault in its place, or the first fault
-// thrown.
+// What is asked of many lines, and what is told: a value of each, or a fault in its place, or the first fault thrown.
 import { eachOf, readableLine, takenLine, type Text } from "../shared/bytes.js";
 import { SearchCut, inLine, type NissyFault } from "../shared/faults.js";
 import { STATUS } from "../shared/structs.js";
 import type { OneReply, Seen } from "./replies.js";
 import { toldBy, type OfEach, type Pair, type Telling } from "./requests.js";
 
-/** What is asked of each line, or pair, whose own line is none, or null for one of too many bytes; `isPiece`: the
- * lines are some of a call's, so a worker tells how long it took. */
+/** What is asked of each line or pair, null for one of too many bytes; `isPiece`: a worker tells how long it took. */
 export type AllRequest<Each extends OfEach = OfEach> = {
   call: "all";
   each: Each;
@@ -26,12 +24,10 @@ export type ReadOne = (reply: any, each: any) => unknown;
 /** What becomes of the faults of many lines: undefined has each in the place of an answer. */
 export type OnFaults = Telling | undefined;
 
-/** What is asked of many lines; `faults` says whether each fault stands in the place of the line's answer, as it does
- * if it isn't given, or the first is thrown. */
+/** What is asked of many lines; `faults`: whether each stands in its answer's place, as without it, or is thrown. */
 export type Many<Faults extends OnFaults = OnFaults> = { faults?: Faults };
 
-/** What is told of a line of many: a value, or in its place what is wrong with the line, unless the option `faults` has
- * that thrown. */
+/** What is told of a line of many: a value, or in its place what is wrong with it, unless `faults` has that thrown. */
 export type Told<Value, Faults> = Faults extends "throw" ? Value : Value | NissyFault | RangeError;
 
 /** What there are many of: their name, and how one is taken, by its number from 1. */

@@ -15,8 +15,7 @@ export type Answer = { status: number; out: Uint8Array; err: Uint8Array; full: b
 /** A solution: its moves, and how many turns they are. */
 export type Solution = { moves: string; length: number };
 
-/** Solutions; `more`: whether there are others beyond `most`, and `nodes`: at how many positions the search looked.
- * Those of a search that was cut begin its list, and `cut` is there. */
+/** Solutions; `more`: whether others are beyond `most`; `nodes`: how many positions it looked at; `cut`: it was cut. */
 export type Solutions = Solution[] & { readonly more: boolean; readonly nodes: number; cut?: true };
 
 export type SideSolutions = BestStep[] & { cut?: true };
@@ -49,8 +48,7 @@ export type FoundParts = { status: 0 | 5; parts: Uint8Array; nodes: number };
 export type FoundWays = { ways: Uint8Array; tried: number; nodes: number };
 export type BestReply = FoundWays & { status: 0 | 5 } | OfTwo;
 
-/** The best, in their order, and at how many positions the search looked. If it ended at its bound, `cut` is there:
- * then these are the best of what was tried until then. */
+/** The best, in their order, and at how many positions the search looked; with `cut`, the best up to its bound. */
 export type Best = BestRow[] & { nodes: number; cut?: true };
 
 /** To one line or more of a call, but for runs. */
@@ -92,8 +90,7 @@ export function outputLinesIn({ status, out, err }: Answer): string[] {
   return textIn(out).split("\n").slice(0, -1);
 }
 
-/** The solutions, of which each has a line such as `F B' (2)`, or `(0)` if no move is needed. There may be millions, so
- * no string is made of a line. */
+/** The solutions, each of a line such as `F B' (2)`, or `(0)` without moves; of millions no line becomes a string. */
 function solutionsFrom(out: string): Solution[] {
   const digit = (at: number) => out.charCodeAt(at) - ZERO;
   const solutions = [];

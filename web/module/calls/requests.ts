@@ -64,8 +64,7 @@ const MOST_SCRAMBLED = 256;
 const MOST_SCRAMBLES = 10_000;
 const MOST_OF_TURN = 3;
 
-/** An option, read once. It is one only if it is the object's own: what objects inherit may be what some script gave to
- * all of them. */
+/** An option, read once. Only the object's own is one: what objects inherit may be what a script gave to all. */
 export function optionOf(options: unknown, name: string, otherwise: unknown = undefined): unknown {
   if (typeof options !== "object" || options === null) throw new TypeError("the options are no object");
   const given = Object.hasOwn(options, name) ? (options as any)[name] : undefined;

@@ -1,10 +1,8 @@
-// Solutions one after another, without a list of them: they are asked for in pieces, each by the last one of the piece
-// before it.
+// Solutions one after another, without a list of them: asked for in pieces, each by the last one of that before it.
 import { solutionsIn, type Solution, type Solutions, type SolveReply } from "./replies.js";
 import type { SolveRequest } from "./requests.js";
 
-/** How many are asked for at first, so that the first ones are there soon, and at most at once; each piece has more
- * than the last one. */
+/** How many are asked for at first, so that these are there soon, and at most; each piece has more than the last. */
 const FIRST_OF_PIECES = 64;
 const MOST_OF_PIECE = 16_384;
 const GROWTH_OF_PIECES = 4;

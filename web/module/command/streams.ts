@@ -8,8 +8,7 @@ const LONGEST_REST = 16;
 
 const nobody = new Int32Array(new SharedArrayBuffer(4));
 
-/** Does what may find that its stream isn't ready, and then tries again: npm and other programs in node hand on streams
- * that don't wait. */
+/** Does what may find that its stream isn't ready, and tries again: npm and other programs hand on such streams. */
 function whenReady(attempt: () => number): number {
   for (let rest = FIRST_REST; ; rest = Math.min(2 * rest, LONGEST_REST)) {
     try {

@@ -1,5 +1,4 @@
-// The calls of the module on one line each, or two, and those that read none, runs too: what they are given, and what
-// their answer is read as.
+// The calls of the module on one line each, or two, or on none, runs too: what they are given, how an answer is read.
 import { MOST_WIDE, characterAt, textIn, type Text } from "../shared/bytes.js";
 import {
   CHECK_ANSWER, ERROR_ROOM, FACTS_ANSWER, LINE_ANSWER, LINE_ROOM, RUN_ANSWER, SEARCH_ANSWER, SOLUTION,
@@ -87,8 +86,7 @@ export function solved(instance: Instance, request: SolveRequest): SolveReply {
   return { status: STATUS.room };
 }
 
-/** The same for a few solutions, as bytes that stand in the module's memory until its next call: so a list that is gone
- * through in pieces leaves nothing to be collected. */
+/** The same for a few solutions, as bytes in the module's memory until its next call: pieces leave nothing behind. */
 export const solvedBytes = (instance: Instance, request: SolveRequest): SolveBytesReply =>
   solvedIn(instance, request, request.most * SOLUTION, (at, length) => instance.memory.bytes(at, length));
 

@@ -1,5 +1,4 @@
-// What is told of lines without a search, as values: where the bad pieces of a cube stand, and whether a solution
-// solves a scramble.
+// What is told of lines without a search: where the bad pieces of a cube stand, and whether a solution solves it.
 import type { Step } from "./steps.js";
 
 /** The axes of the faces F and B, of R and L, and of U and D, in the module's order. */
@@ -40,8 +39,7 @@ export type Facts = {
   badCorners: OnEachAxis<readonly CornerPlace[]>;
   /** Those of the edges on the wrong side of the axis's slice. */
   misplacedEdges: OnEachAxis<readonly EdgePlace[]>;
-  /** The case of a domino reduction on the axis as solvers write it: `4c4e` has four bad corners and four misplaced
-   * edges. */
+  /** The case of a domino reduction on the axis: `4c4e` has four bad corners and four misplaced edges. */
   case: OnEachAxis<string>;
   /** The steps that the cube has reached. */
   holds: readonly Step[];

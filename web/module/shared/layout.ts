@@ -1,5 +1,4 @@
-// The structs of include/nissy.h, which tests/module/layout.mjs holds beside these, and the rooms that are enough for
-// its calls.
+// The structs of include/nissy.h, which tests/module/layout.mjs holds beside these, and rooms enough for its calls.
 import { struct } from "./structs.js";
 
 /** With which each answer begins of a call on a line that may have a fault. */

@@ -1,5 +1,4 @@
-// Moves on both sides: on the scramble, the normal side, and on its inverse. In a line those on the inverse side stand
-// in brackets.
+// Moves on both sides: on the scramble, the normal side, and on its inverse, whose moves stand in brackets in a line.
 
 export type Side = "normal" | "inverse";
 

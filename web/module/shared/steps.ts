@@ -9,8 +9,7 @@ export const STEPS = Object.freeze([
 
 export type Step = typeof STEPS[number];
 
-/** What calls take as a step: tsc refuses a literal that names none, and a string that it doesn't know is judged by the
- * call. */
+/** What calls take as a step: tsc refuses a literal that names none; the call judges a string that tsc doesn't know. */
 export type StepName<Name extends string> = Name & (string extends Name ? string : Name extends Step ? string : never);
 
 export const isStep = (name: unknown): name is Step => STEPS.some((step) => step === name);

@@ -1,5 +1,4 @@
-// Where the 54 letters of a cube stand in its net, for those who draw it, and which ones each piece has, for those who
-// mark pieces.
+// Where the 54 letters of a cube stand in its net, for who draws it, and which ones a piece has, for who marks pieces.
 import { CORNER_PLACES, type CornerPlace, type EdgePlace } from "./facts.js";
 
 /** From above and from the left, from 0. */
@@ -8,8 +7,7 @@ export type NetPlace = Readonly<{ row: number; column: number }>;
 /** Where the faces begin in the net, U, R, F, D, L and B. */
 const FACES_IN_NET = [[0, 3], [3, 6], [3, 3], [6, 3], [3, 0], [3, 9]];
 
-/** Where each letter of what `facelets` returns stands in the usual net of 9 rows and 12 columns: U above F; L, F, R
- * and B in a row; D below F. */
+/** Where the letters of `facelets` stand in the net of 9 rows and 12 columns: U above F; L, F, R, B; D below F. */
 export const NET: readonly NetPlace[] = Object.freeze(FACES_IN_NET.flatMap(([row, column]) =>
   Array.from({ length: 9 }, (_, at) => Object.freeze({ row: row + Math.floor(at / 3), column: column + (at % 3) }))));
 

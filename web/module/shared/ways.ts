@@ -34,8 +34,7 @@ function eitherWay(turn: string): string[] {
   return [turn, turn.endsWith("'") ? turn[0] : `${turn}'`];
 }
 
-/** The turns on a side, and how they may end: the last ones that are free are quarter turns of either direction, or
- * half turns. */
+/** The turns on a side, and how they may end: the last, free ones are quarter turns of either way, or half turns. */
 function sideAt(bytes: Uint8Array, at: number) {
   const { count, free } = SIDE_TURNS.read;
   const begin = at + SIDE_TURNS.at.turns;

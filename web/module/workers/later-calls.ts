@@ -92,11 +92,9 @@ export class LaterCalls<Time extends When> {
 
 export interface LaterCalls<Time extends When> extends Calls<Time> {}
 
-/** The engine in a worker. Each call may be given up by an `AbortSignal`: the tables of the steps are built anew after
- * one that ran. */
+/** The engine in a worker. An `AbortSignal` may give up each call: after one that ran, the tables are built anew. */
 export class WorkerCalls extends LaterCalls<"worker"> {
-  /** Starts an engine. Rejects with `NoWebAssembly` if the host runs none, and with `EngineMissing` if the worker can't
-   * be started. */
+  /** Starts an engine. Rejects with `NoWebAssembly` if the host runs none, with `EngineMissing` if no worker starts. */
   static async startBy(source: ModuleSource | Promise<ModuleSource>, newWorker: NewWorker): Promise<WorkerCalls> {
     return this.begun(new this(await compiled(source), newWorker));
   }

@@ -100,8 +100,7 @@ class Pieces {
     return { ...this.request, lines: this.request.lines.slice(begin, end), isPiece: true };
   }
 
-  /** Learns from a worker's reply to a piece how many lines the next ones have, and whether any are wanted. Several
-   * that were as long make the next ones shorter once. */
+  /** Learns from a reply how many lines the next pieces have, if any: several as long make them shorter once. */
   hear({ begin, end }: Piece, { others, milliseconds }: PieceReply) {
     if (others.some(([, reply]) => endsAll(this.request, reply))) this.#wanted = Math.min(this.#wanted, end);
     const lines = end - begin;

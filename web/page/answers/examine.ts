@@ -1,7 +1,7 @@
 // What the engine at hand says of a scramble, the moves after it, the steps that may follow, and lines that are kept.
 import { NissyFault, type FaultParts } from "../../module/shared/faults.js";
 import { lastOf } from "../shared/certain.js";
-import { casesPassed, positionAfter, totalsWith, type Position } from "./position-after.js";
+import { casesPassed, positionAfter, totalsWith, withoutCancelled, type Position } from "./position-after.js";
 import { readScramble, type ReadScramble } from "./read-lines.js";
 import {
   REDUCTIONS, SIDES, bracketed, isOffered, isReduced, newlyReached, onOtherSides, openSteps, partOn, singleMoves,
@@ -80,7 +80,7 @@ export function viewsOf(nissy: Nissy, { lines }: Position): Record<Side, View> {
   return { normal: viewOf(lines.normal), inverse: viewOf(lines.inverse) };
 }
 
-/** `whole`: the line without brackets. */
+/** `whole`: the line without brackets, clean; before the cube is solved more goes between its two sides. */
 export type Examined = { read: ReadScramble; walk: Walk; views: Record<Side, View>; whole: string };
 export type Unexamined = { unread: FaultParts };
 
@@ -93,7 +93,9 @@ function examined(nissy: Nissy, { text, parts }: { text: string; parts: Part[] }
     return { unread: fault.parts() };
   }
   const walk = walkOf(nissy, read.line, parts);
-  return { read, walk, views: viewsOf(nissy, walk.now), whole: nissy.unniss(bracketed(parts)) };
+  const whole = nissy.unniss(bracketed([walk.now.made]));
+  const views = viewsOf(nissy, walk.now);
+  return { read, walk, views, whole: views.normal.facts.solved ? withoutCancelled(nissy, whole) : whole };
 }
 
 /** The cube on both sides after the scramble and after each move of some parts. */

@@ -1,5 +1,4 @@
-// The rows of a list, by the engine at hand: a step's solutions on a side, or over both, twins as one, each with the
-// cases after it; after moves the fewest in all first.
+// The rows of a list: a step's solutions, twins as one, with the cases after each; after moves the fewest in all first.
 import { casesPassed, lineWith, positionAfter, totalsWith } from "./position-after.js";
 import { SIDES, bracketed, facesOnAxisOf, stepNamed, type Part, type Step } from "../shared/offered-steps.js";
 import { mergeTwins, type Entry } from "../shared/twins.js";

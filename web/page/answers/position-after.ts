@@ -1,10 +1,10 @@
 // Cubes after a scramble and steps on both sides, how many moves those that follow make in all, and their cases.
 import { present } from "../shared/certain.js";
-import { SIDES, bracketed, joined, movesOn, singleMoves, type Part, type Side } from "../shared/offered-steps.js";
+import { SIDES, joined, movesOn, onOtherSides, singleMoves, type Part, type Side } from "../shared/offered-steps.js";
 import type { Axis } from "../../module/shared/facts.js";
 import type { Nissy } from "../../module/nissy.js";
 
-/** Both on each side; `count`: how many moves were made. */
+/** Both on each side; `lines`: what undoes the other side, the scramble, the side's moves; `count`: of all moves. */
 export type Position = { lines: Part; made: Part; count: number };
 
 /** A line with some moves more, those on the inverse side before it. */
@@ -18,12 +18,19 @@ export function totalsWith(nissy: Nissy, made: Part, parts: readonly Part[]): nu
   return normal.map(({ cleanMoves }, at) => cleanMoves + inverse[at].cleanMoves);
 }
 
+/** Moves as they are written, or clean if some of them cancel. */
+export function withoutCancelled(nissy: Nissy, moves: string) {
+  const clean = nissy.cleanup(moves);
+  return clean.length < moves.length ? clean : moves;
+}
+
 /** The cube after some steps of a scramble. @param scramble by its face turns */
 export function positionAfter(nissy: Nissy, scramble: string, parts: Part[]): Position {
-  const line = nissy.lineAfter(scramble, bracketed(parts));
-  const [normal, inverse] = SIDES.map((side) => nissy.cleanup(movesOn(parts, side)));
-  const [count] = totalsWith(nissy, { normal: "", inverse: "" }, [{ normal, inverse }]);
-  return { lines: { normal: line, inverse: nissy.invert(line) }, made: { normal, inverse }, count };
+  const [normal, inverse] = SIDES.map((side) => withoutCancelled(nissy, movesOn(parts, side)));
+  const made = { normal, inverse };
+  const [count] = totalsWith(nissy, { normal: "", inverse: "" }, [made]);
+  const onInverse = lineWith(nissy, nissy.invert(scramble), onOtherSides(made));
+  return { lines: { normal: lineWith(nissy, scramble, made), inverse: onInverse }, made, count };
 }
 
 /** The cube before each move of a step, those on the normal side first. @param now the line before it */

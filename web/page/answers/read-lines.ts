@@ -30,7 +30,8 @@ export type ReadScramble = { line: string; isTurned: boolean; written: string };
 
 export function readScramble(nissy: Nissy, text: string): ReadScramble {
   const plain = nissy.plainLine(text).line;
-  const cleaned = nissy.cleanup(nissy.unniss(plain));
+  const whole = nissy.unniss(plain);
+  const cleaned = FACE_TURNS.test(whole) ? whole : nissy.cleanup(whole);
   const line = withoutTurns(cleaned);
   const isTurned = line !== cleaned;
   return { line, isTurned, written: isTurned ? line : plain.trim().replace(/ +/g, " ") };

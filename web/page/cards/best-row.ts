@@ -4,6 +4,7 @@ import { counted, element, inner, type Attributes } from "../shared/element.js";
 import { triggerOf, withCases } from "../shared/passage.js";
 import { starButton, takeButton, type StarActs } from "../shared/rows.js";
 import { SIDES, bracketed, sidesOf, type Part, type Side } from "../shared/offered-steps.js";
+import { wordsOfTwins } from "../shared/twins.js";
 import type { After } from "../answers/examine.js";
 import type { Next, Row } from "./finder.js";
 
@@ -21,8 +22,7 @@ function cell(name: "td" | "th", attributes: Attributes, ...children: (Node | st
 
 /** The cell of a row's moves and twins, and of the reduction after them; it tells the style how many signs it has. */
 function movesCell(take: HTMLElement, line: string, twins: string[], next: Next | null) {
-  // as solvers write it: the last turn may be the one or the other
-  const words = twins.length === 1 ? ` / ${twins[0].replace(/[()]/g, "")}` : ` or ${twins.length} twins`;
+  const words = wordsOfTwins(twins);
   const twin = twins.length === 0 ? [] : [element("small", { class: "twins" }, words)];
   const below = next === null ? [] : [...twin, firstOf(next)];
   const made = cell("td", {}, element("span", { class: "ends" }, take, ...(next === null ? twin : [])), ...below);

@@ -151,7 +151,7 @@ export class BestContinuations {
     // a search that was asked for says so itself
     if (this.#isAsked) return this.#stop();
     if (this.#again !== null) return this.#again();
-    if (this.#further.held()) return this.#further.release();
+    if (this.#further.state === "held") return this.#further.release();
     this.#further.hold();
     this.#brokenOff(new Stopped());
     this.#working(false);
@@ -279,10 +279,10 @@ export class BestContinuations {
 
   #working(isAsked: boolean) {
     this.#isAsked = isAsked;
-    const isOn = isAsked || this.#further.isOn();
-    const isHeld = !isAsked && (this.#again !== null || Boolean(this.#further.held()));
-    const stop = part("best-stop");
-    stop.textContent = isHeld || (!isAsked && this.#further.held() !== null) ? "Go on" : "Stop";
+    const [stop, { state }] = [part("best-stop"), this.#further];
+    const isOn = isAsked || state === "on";
+    const isHeld = !isAsked && (this.#again !== null || state === "held");
+    stop.textContent = isHeld || (!isAsked && state === "counting") ? "Go on" : "Stop";
     // what can't be pressed can't keep the focus
     if (!isOn && !isHeld && document.activeElement === stop) part("best-heading").focus({ preventScroll: true });
     // it stays where it is, and so does all below it
@@ -324,7 +324,6 @@ export class BestContinuations {
     // with those that are still to be found
     const left = this.#filters.count > 0 ? this.#rows(this.#progress).length : this.#progress.count;
     part("best-more").hidden = this.#shown >= left;
-    part("best-more").textContent = `Show more of ${left.toLocaleString("en")}`;
     const rows = this.#joining();
     const kind = rows[0]?.total < this.#seen[0]?.total ? "better" : "more";
     const words = rows.length === 0 ? "" : `${counted(rows.length, `${kind} row`)}, from ${rows[0].total} moves`;
@@ -339,7 +338,8 @@ export class BestContinuations {
     const words = left === count ? all : `${left.toLocaleString("en")} of ${all}`;
     const waiting = this.#waiting();
     const longer = waiting ? `Up to ${waiting.slack} longer: ${counted(waiting.tried, "row")}` : "";
-    const said = this.#further.held() || (longer && `${longer}${isOffered ? "" : ", none better"}.`);
+    const found = longer && `${longer}${isOffered ? "" : ", none better"}.`;
+    const said = this.#further.state === "held" ? this.#further.words() : found;
     return `${words[0].toUpperCase()}${words.slice(1)}. ${said}`.trim();
   }
 

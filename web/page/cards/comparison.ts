@@ -4,6 +4,7 @@ import { SIDES, bracketed, nameOfSide, stateOf, stepNamed, type Part, type Side 
 import { showMarked } from "./cube.js";
 import { emptyNet } from "./net.js";
 import { caseOfStep } from "./step-table.js";
+import { NO_STEP_AFTER_DR } from "../shared/words.js";
 import type { Compared, Counts } from "../answers/compare.js";
 import type { BestRow } from "../../module/shared/ways.js";
 import type { View } from "../answers/examine.js";
@@ -24,7 +25,7 @@ const wordsOf = (counts: Counts) => [...counts].flatMap(([length, count], at) =>
   element("span", { class: "together" }, `${length} ×${count.toLocaleString("en")}`)]);
 
 function followingOf({ steps, views: { normal: { facts } } }: Compared) {
-  if (steps.length === 0) return element("p", { class: "note" }, "nissy has no step after a DR.");
+  if (steps.length === 0) return element("p", { class: "note" }, `${NO_STEP_AFTER_DR}.`);
   const head = SIDES.map((side) => element("th", { scope: "col" }, nameOfSide(side)));
   const rows = steps.map(({ step, counts }) => element("tr", {},
     element("th", { scope: "row" }, stateOf(step), element("small", {}, ` ${caseOfStep(facts, step)}`)),

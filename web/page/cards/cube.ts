@@ -33,8 +33,7 @@ export function showMarked(net: SVGElement, side: Side, { letters, facts }: View
   return words === "" ? "" : ` · ${words}`;
 }
 
-/** The looks at a line: after how many of its single moves, and at what these lead to. At the end of a step one looks
- * at what it reached, and then at what the next one leads to. */
+/** The looks at a line: after how many single moves, and at what goal; at a step's end at its own, then at the next. */
 function looksOf(walk: Walk): { made: number; goal: string }[] {
   const reached = walk.parts.map((_, at) => newlyReached(walk, at)[0] ?? "");
   const last = reached.filter(Boolean).at(-1) ?? "";

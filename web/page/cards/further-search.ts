@@ -1,7 +1,7 @@
 // Longer orientations, which nobody asked for: one move longer, and then two. They are looked for while the page is
 // seen and waits for nothing else, by workers that leave half of the processor to whatever is asked meanwhile, as long
 // as a measure allows them, and after that once they are asked for.
-import { thrownError } from "../shared/certain.js";
+import { present, thrownError } from "../shared/certain.js";
 import { findOnAxis, together, type Found, type FoundOnAxis, type Question } from "./finder.js";
 import { Measure, isSmall, mostTogether } from "./measure.js";
 import { ORIENTATIONS } from "../shared/offered-steps.js";
@@ -43,16 +43,16 @@ export class FurtherSearch {
     document.addEventListener("visibilitychange", () => (document.hidden ? this.#pause() : this.#wait()));
   }
 
-  /** Whether it goes on, or waits for a moment in which it may. */
-  isOn() {
-    return this.#search !== null && !this.#search.isHeld && !document.hidden;
+  /** `on`: or waits for a moment in which it may; `held`: until it is asked for; `counting`: so, not yet counted. */
+  get state(): "off" | "on" | "counting" | "held" {
+    if (!this.#search?.isHeld) return this.#search === null || document.hidden ? "off" : "on";
+    return this.#search.sizes.length === 0 ? "counting" : "held";
   }
 
-  /** What it waits with until it is asked for, in words, or "" until that is counted; null if it doesn't wait so. */
-  held() {
-    if (!this.#search?.isHeld) return null;
-    const { question: { slack }, sizes } = this.#search;
-    return sizes.length === 0 ? "" : `Up to ${slack} longer: ${this.measure.words(sizes)}.`;
+  /** What it waits with until it is asked for, once that is counted. */
+  words() {
+    const { question: { slack }, sizes } = present(this.#search);
+    return `Up to ${slack} longer: ${this.measure.words(sizes)}.`;
   }
 
   /** Has it wait until it is asked for again; what it found stays. */
@@ -91,14 +91,14 @@ export class FurtherSearch {
   /** Gives up what is looked at until the page is seen again. */
   #pause() {
     clearTimeout(this.#timer);
-    if (this.#search === null || this.held()) return;
+    if (this.#search === null || this.state === "held") return;
     for (const at of this.#search.running) this.finders[at].stop();
     this.acts.turned();
   }
 
   #wait() {
     clearTimeout(this.#timer);
-    if (this.#search === null || this.held()) return;
+    if (this.#search === null || this.state === "held") return;
     this.#timer = setTimeout(() => this.#goOn(), IDLE_FOR);
     this.acts.turned();
   }

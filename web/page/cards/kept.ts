@@ -53,14 +53,12 @@ function casesAfter(walk: KeptWalk): string[] {
 
 /** What is seen of a candidate: its steps with their cases and what they reach, all moves, and what follows. */
 function stepOf(parts: Part[], walk: KeptWalk | null) {
-  const count = lastOf(walk?.totals ?? [0]);
-  const total = parts.length > 1 ? `${count} in all` : counted(count, "move");
   const steps = parts.map((part, at) => element("span", { class: "step" },
     element("span", { class: "moves" }, ...withCases(bracketed([part]), walk?.passed[at] ?? [])),
     ...(walk === null ? [] : saidToBeReached(walk, at)).map((state) => element("span", { class: "chip" }, state))));
   const cases = walk === null ? [] : casesAfter(walk);
   return element("span", { class: "step" }, ...steps,
-    element("span", { class: "total" }, walk === null ? "" : total),
+    element("span", { class: "total" }, walk === null ? "" : `${lastOf(walk.totals)} in all`),
     ...cases.map((each) => element("span", { class: "case" }, each)));
 }
 

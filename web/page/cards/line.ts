@@ -8,7 +8,7 @@ import {
   type Part, type Side,
 } from "../shared/offered-steps.js";
 import { withCases } from "../shared/passage.js";
-import { showFault, wordsOfLeftOut } from "../shared/words.js";
+import { NO_STEP_AFTER_DR, showFault, wordsOfLeftOut } from "../shared/words.js";
 import type { Calls } from "../shared/questions.js";
 import type { Reader } from "../shared/reader.js";
 import type { Walk } from "../answers/examine.js";
@@ -21,14 +21,15 @@ const OF_MOVES = ["line-list", "whole", "set-ups", "bar-total", "bar-undo", "kee
 /** Words in a row: `one`, `one and another`, `one, another and a third`. */
 const listed = (words: string[]) => [words.slice(0, -1).join(", "), ...words.slice(-1)].filter(Boolean).join(" and ");
 
-function endOf({ parts, facts, reached, totals }: Walk) {
-  const total = counted(lastOf(totals), "move");
+/** @param whole without brackets, in which moves of the two sides may cancel */
+function endOf({ parts, facts, reached, totals }: Walk, whole: string) {
+  const [total, left] = [counted(lastOf(totals), "move"), whole.split(" ").filter(Boolean).length];
   if (parts.length === 0) return "";
-  if (lastOf(facts).solved) return `Solved: ${total}.`;
+  if (lastOf(facts).solved) return `Solved: ${total}${left < lastOf(totals) ? `, ${left} without brackets` : ""}.`;
   if (!isReduced(lastOf(reached))) return "";
   const states = statesOf(lastOf(reached)).filter((state) => state.startsWith("DR"));
   const are = states.length === 1 ? "is" : "are";
-  return `${listed(states)} ${are} reached: ${total}. nissy has no step after a DR: go on by hand.`;
+  return `${listed(states)} ${are} reached: ${total}. ${NO_STEP_AFTER_DR}: go on by hand.`;
 }
 
 /** What is said of a step that newly reaches nothing: what it gives up, and what it would reach on the other side. */
@@ -161,7 +162,7 @@ export class LineSoFar {
     const isRead = this.#words.every((_, index) => newlyReached(walk, index).length > 0);
     if (this.#doubt && !isRead) tell(this.#words[this.#doubt.index].doubt, this.#doubt.words);
     part("set-ups").replaceChildren(...setUps(walk.now.lines));
-    tell(part("finished"), endOf(walk));
+    tell(part("finished"), endOf(walk, whole));
   }
 
   /** Takes what makes one doubt a step that was read of a text. */

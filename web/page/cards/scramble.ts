@@ -1,8 +1,9 @@
 // The card of the scramble: its field, what was left out of a text and what is at fault, and its fold.
 import { Stopped } from "../../module/shared/faults.js";
 import { announce, announceLater, counted, part, tell } from "../shared/element.js";
-import { emptyState } from "../state/address.js";
-import { sheetsIn, type NewSheet } from "../state/desk.js";
+import { emptyState, type State } from "../state/address.js";
+import { sheetsIn, withoutAddresses, type NewSheet } from "../state/desk.js";
+import { areSaid } from "../state/kept-lines.js";
 import { LONGEST_SCRAMBLE } from "../state/limits.js";
 import { areBeside, withoutMoving } from "../shared/view.js";
 import { showDoubt, showFault, unanswered, wordsOfLeftOut } from "../shared/words.js";
@@ -153,18 +154,25 @@ export class ScrambleField {
     this.#timer = setTimeout(() => this.#read(false, false), PAUSE);
   }
 
+  /** Whether kept lines that were copied were edited since: then they count, and not the address below them. */
+  #isEdited(text: string, { scramble, kept }: State) {
+    const [copied] = this.reader.attempts(withoutAddresses(text));
+    const lines = copied.candidates.map(({ solution }) => spaced(solution));
+    return lines.length > 0 && !(spaced(copied.scramble) === spaced({ line: scramble }) && areSaid(kept, lines));
+  }
+
   /** Takes what another page copied, if a text has that. @returns whether it has */
   #takeSheets(text: string) {
     const sheets = sheetsIn(text);
-    if (sheets.length === 0) return false;
+    if (sheets.length === 0 || this.#isEdited(text, sheets[0].state)) return false;
     this.#field.value = this.#shown;
     this.acts.take(sheets);
     return true;
   }
 
   #read(isReplaced: boolean, isPasted: boolean) {
-    const text = this.#field.value;
-    if (this.#takeSheets(text)) return;
+    if (this.#takeSheets(this.#field.value)) return;
+    const text = withoutAddresses(this.#field.value);
     // an empty line more is nothing new
     if (!isPasted && this.#isRead && text.trim() === this.#shown.trim()) return;
     const attempts = this.reader.attempts(text);
@@ -211,8 +219,7 @@ export class ScrambleField {
     if (fmc === null) this.#doubt = doubt;
   }
 
-  /** Whether a scramble is another one than the last: it was pasted in its place, or typed after it was deleted, or it
-   * has steps. The beginning of the same one may be typed again. */
+  /** Whether a scramble is another one than the last: pasted in its place, or typed anew and no beginning of it. */
   #isOther(line: string, isPasted: boolean, hasSteps: boolean) {
     const last = spaced({ line: this.#last });
     if (line === "") {

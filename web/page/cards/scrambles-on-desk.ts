@@ -1,5 +1,4 @@
-// The desk as the page has it: a strip with a link to each scramble, and what takes one away; and how what is shown
-// comes to the desk, and from there to the page.
+// The desk as the page has it: a strip with a link to each scramble; how what is shown comes there, and back.
 import { copy } from "../shared/copying.js";
 import { announce, counted, element, part, tell } from "../shared/element.js";
 import { addressOf, emptyState, type State } from "../state/address.js";

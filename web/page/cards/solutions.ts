@@ -6,7 +6,7 @@ import { GREATEST_SLACK } from "../state/limits.js";
 import { addRows, roveWithin, showRows, starButton, takeButton, takeNamed, type StarActs } from "../shared/rows.js";
 import { axisName, partOf, reductionsAfter, stateOf, stepNamed, titleOf, type Part } from "../shared/offered-steps.js";
 import { signsOfCases, triggerOf } from "../shared/passage.js";
-import { sidesOfTwins, type Entry } from "../shared/twins.js";
+import { sidesOfTwins, wordsOfTwins, type Entry } from "../shared/twins.js";
 import { isNarrow } from "../shared/view.js";
 import type { Calls } from "../shared/questions.js";
 import type { Rows } from "../answers/list-rows.js";
@@ -245,7 +245,7 @@ export class SolutionList {
     const said = { passed, cases: cases.map(({ axis, name }) => `${axis} ${name}`), twins };
     return element("li", {},
       takeButton(moves, { key: moves, isSeen: this.acts.isSeen(added), ...said }, () => this.acts.take(added, moves)),
-      ...(others.length === 0 ? [] : [element("small", { class: "twins" }, `/ ${others.join(" / ")}`)]),
+      ...(others.length === 0 ? [] : [element("small", { class: "twins" }, wordsOfTwins(others))]),
       ...(cases.length === 0 ? [] : [element("span", { class: "cases" }, ...cases.map(({ axis, name, state }) =>
         element("span", { class: "case", "data-marks": state }, `${axis} ${name}`)))]),
       element("span", { class: "acts" },

@@ -7,6 +7,10 @@ import type { Facts } from "../../module/shared/facts.js";
  * `cases`: after an orientation; `passed`: before each move of a reduction. */
 export type Entry = BestStep & { others: string[]; total?: number; cases?: Facts["case"]; passed?: string[] };
 
+/** As solvers write it: the last turn may be the one or the other; of several twins only how many they are. */
+export const wordsOfTwins = (twins: readonly string[]) =>
+  (twins.length === 1 ? ` / ${twins[0].replace(/[()]/g, "")}` : ` or ${twins.length} twins`);
+
 /** Moves on a side, and those with the last turns of twins. */
 const withEnds = (moves: string[], ends: readonly string[]) =>
   [moves, ...ends.map((end) => [...moves.slice(0, moves.length - end.split(" ").length), end])];

@@ -12,6 +12,7 @@ import type { Unread } from "../answers/read-lines.js";
 export const MOST_ARE_KEPT = `${MOST_CANDIDATES} lines are kept, and there can be no more: remove one of them first.`;
 export const NO_ROOM = "The address of the page has no room for another line: "
   + "remove one that is kept, or shorten a note.";
+export const NO_STEP_AFTER_DR = "nissy has no step after a DR";
 export const NOT_IN_ADDRESS = "The address of the page has no room for all of this, and stays as it was.";
 const PAGE_NAME = "nissy";
 const TOO_MANY = `more than ${MOST_MOVES} moves`;

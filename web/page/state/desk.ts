@@ -162,6 +162,8 @@ export const textOfDesk = (sheets: readonly Sheet[]) => [
   ...sheets.map((each, at) => `\n${at + 1}. ${stateOfSheet(each).scramble}\n${each.address}`),
 ].join("\n");
 
+export const withoutAddresses = (text: string) => text.replace(ADDRESS, "");
+
 /** The scrambles of such a text; none of any other one. */
 export const sheetsIn = (text: string): NewSheet[] => [...text.matchAll(ADDRESS)].flatMap(([address]) => {
   const { state, fault } = readAddress(address);

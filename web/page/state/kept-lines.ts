@@ -6,6 +6,15 @@ import type { Candidate, State } from "./address.js";
 
 export const nameOf = ({ parts, next }: Pick<Candidate, "parts" | "next">) => [bracketed(parts), next].join(" ").trim();
 
+/** Whether lines say what is kept, the first of the reduction that it was kept with too, and nothing more. */
+export function areSaid(candidates: Candidate[], lines: string[]) {
+  const isSaid = ({ parts, next }: Candidate) => {
+    const own = parts.map((each) => bracketed([each])).join(" ");
+    return lines.some((line) => line === own || (next !== "" && line.startsWith(`${own} `)));
+  };
+  return lines.length === candidates.length && candidates.every(isSaid);
+}
+
 /** What is kept once a line is starred, or no longer if it was. */
 export function withStar(candidates: Candidate[], parts: Part[], next: string): Candidate[] {
   const others = candidates.filter((each) => nameOf(each) !== nameOf({ parts, next }));
