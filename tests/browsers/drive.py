@@ -27,7 +27,7 @@ PARTS = (
     "trifles further desk first ahead teacher attempts scrambles passage compared"
 ).split()
 # how many browsers there are, each with some of the parts
-BROWSERS = 8
+BROWSERS = 12
 TOP = Path(__file__).resolve().parent.parent.parent
 NO_ENGINE = "globalThis.WebAssembly = undefined;\n"
 
