@@ -111,10 +111,10 @@ pub fn is_whole_scramble(body: &[u8]) -> bool {
     }
 }
 
-/// Whether a text begins with R' U' F, and ends with it once more.
+/// Whether a text is all of a scramble, before and after which no turn stands.
 pub fn is_framed(text: &[u8]) -> bool {
     match behind_frame(text) {
-        Some(rest) => ends_with_frame(rest),
+        Some(rest) => is_whole_scramble(text) && ends_with_frame(rest),
         None => false,
     }
 }
