@@ -16,7 +16,10 @@ def shows(tally: Tally, browser: Browser, what: str, *made: str) -> None:
 
 def shows_skeleton(tally: Tally, browser: Browser, line: str) -> None:
     """The whole of the skeleton in both forms, of which the other is seen where it differs, and how long it is."""
-    moves, joined = sum(letter in "UDRLFB" for letter in answer("cleanup", line)), answer("unniss", line)
+    # moves that cancel on a side are gone
+    moves, joined = sum(letter in "UDRLFB" for letter in answer("cleanup", line)), answer(
+        "unniss", answer("cleanup", line)
+    )
     looks = {
         "bracketed": line,
         "joined": "" if joined == line else joined,
