@@ -12,8 +12,7 @@ import { FEED, RETURN, type WrittenLine } from "./written.js";
  * module has it, and `before`: how many of them come before each line of the text, and before its end. */
 export type WrittenMoves = WrittenLine & { parts: Uint8Array; before: Uint32Array };
 
-/** What the module tells of each line of a text, the moves of its scrambles and of its steps, and what it says of each
- * attempt if it was asked. */
+/** What the module tells of each line, the moves of scrambles and of steps, and of each attempt a check if asked to. */
 export type ToldText = { lines: Uint8Array; moves: WrittenMoves[]; checks: Uint8Array };
 
 /** What a line is, by the module's numbers. */
