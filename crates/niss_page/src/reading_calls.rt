@@ -15,6 +15,7 @@ use niss_text::{
 pub extern "C" fn nissy_plain(text: &[u8], out: &mut [u8], places: &mut [u64]) -> PlainAnswer
     ensures reads { result.status ≡ 0 → IsPlain text.now (take result.length out.new) (take result.length places.new) result.left_out }
     ensures room { 3 * length text.now ≤ length out.old → 3 * length text.now ≤ length places.old → result.status ≡ 0 }
+    ensures known { (result.status ≡ 0) ⊎ (result.status ≡ 4) }
     ensures within { (result.length ≤ length out.old) × (result.length ≤ length places.old) }
     ensures behind { drop result.length out.new ≡ drop result.length out.old }
     ensures behind_places { drop result.length places.new ≡ drop result.length places.old }

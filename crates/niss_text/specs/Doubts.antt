@@ -103,6 +103,7 @@ pub record IsAsWritten (text : List ℕ) (from to : ℕ) : Type 0 where
 -- in square brackets among its moves.
 pub record IsDoubted (text : List ℕ) (line : TextLine) : Type 0 where
   pub place : (line.begin ≤ line.doubt_at) × (line.doubt_at ≤ line.end)
+  pub number : line.doubt ≤ 8
   pub nowhere : line.doubt ≡ 0 → line.doubt_at ≡ line.end
   pub before : line.kind < 2 → line.doubt ≡ 0
   pub another : line.doubt ≡ 1 → line.kind ≡ 2

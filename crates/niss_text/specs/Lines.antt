@@ -5,6 +5,7 @@ use Rattle.niss_text.specs.Doubts.{IsDoubted}
 use Rattle.niss_text.specs.declared.text_line.TextLine.{TextLine}
 
 -- A line that begins there. Its parts stand in this order, and none overlaps another. Only a step is on the inverse.
+-- What is said of it by 0 or 1 is said by nothing else.
 pub record IsLine (from : ℕ) (line : TextLine) : Type 0 where
   pub begins : line.begin ≡ from
   pub head : line.begin ≤ line.head_end
@@ -14,6 +15,8 @@ pub record IsLine (from : ℕ) (line : TextLine) : Type 0 where
   pub moves : line.moves ≤ line.comment
   pub comment : line.comment ≤ line.end
   pub inverse : (line.is_inverse ≡ 0) ⊎ (line.kind ≡ 3)
+  pub kind : line.kind ≤ 4
+  pub flags : (line.is_solution ≤ 1) × (line.is_headed ≤ 1) × (line.says_solution ≤ 1) × (line.is_inverse ≤ 1)
 
 -- how many bytes of two end a line: a return and a line feed both, either of them alone, or none
 abbrev pub end_of : ℕ → ℕ → ℕ

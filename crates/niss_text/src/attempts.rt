@@ -56,7 +56,7 @@ fn first_attempt(text: &[u8], numbers: Numbers, number: usize) -> Attempt
 {
     let seen = outline_of(text, numbers);
     let lines = &text[..seen.length];
-    let scramble_end = seen.first + scramble_length(&lines[seen.first..], numbers, seen.is_whole);
+    let scramble_end = seen.first + scramble_length(&lines[seen.first..], numbers);
     let solutions = solutions_of(&lines[scramble_end..], numbers);
     Attempt {
         number,

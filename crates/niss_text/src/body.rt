@@ -2,9 +2,9 @@
 ghost use Rattle.std.specs.Prelude.{◌≤◌, ◌<◌, length, IfSome};
 
 use crate::sights::is_capital;
-use crate::sign::{Kind, first_kind, first_sign, trimmed};
+use crate::sign::{Class, behind, first_kind, first_sign, trimmed};
 
-/// What is after an apostrophe and blanks in front of a text, if they are there.
+/// What is after an apostrophe in front of a text, if it is there, from the next letter on, which may be on another line.
 #[inline(never)]
 fn behind_prime(text: &[u8]) -> Option<&[u8]>
     ensures { IfSome result (λ rest. length rest.now < length text.now) }
@@ -14,13 +14,13 @@ fn behind_prime(text: &[u8]) -> Option<&[u8]>
     }
     let sign = first_sign(text);
     if sign.kind.is_prime() {
-        Some(trimmed(&text[sign.length..]))
+        Some(behind(&text[sign.length..], Class::NoLetters))
     } else {
         None
     }
 }
 
-/// What is after a letter with an apostrophe and blanks in front of a text, if they are there.
+/// The same after a letter with an apostrophe.
 #[inline(never)]
 fn behind_primed(text: &[u8], letter: u8) -> Option<&[u8]>
     ensures { IfSome result (λ rest. length rest.now < length text.now) }
@@ -72,7 +72,7 @@ pub fn has_frame(text: &[u8]) -> bool {
     behind_next_frame(text).is_some()
 }
 
-/// Whether R' U' F stands in a line, and no turn after it.
+/// Whether R' U' F stands in a text, and no turn after it.
 fn ends_with_frame(text: &[u8]) -> bool {
     let mut rest = text;
     while let Some(behind) = behind_next_frame(rest) {
@@ -107,6 +107,14 @@ fn behind_first_frame(text: &[u8]) -> Option<&[u8]> {
 pub fn is_whole_scramble(body: &[u8]) -> bool {
     match behind_first_frame(body) {
         Some(rest) => behind_first_frame(rest).is_some(),
+        None => false,
+    }
+}
+
+/// Whether a text is all of a scramble, before and after which no turn stands.
+pub fn is_framed(text: &[u8]) -> bool {
+    match behind_frame(text) {
+        Some(rest) => is_whole_scramble(text) && ends_with_frame(rest),
         None => false,
     }
 }

@@ -39,7 +39,8 @@ pub enum Doubt {
 impl Doubt {
     /// Its number.
     fn number(self) -> u8
-        ensures { result ≡ number_of self }
+        ensures value { result ≡ number_of self }
+        ensures in_range { result ≤ 8 }
     {
         match self {
             Doubt::Nothing => 0,

@@ -1,13 +1,48 @@
 //! Where the attempts of a stretch begin and end, and their scrambles.
 ghost use Rattle.std.specs.Prelude.{◌≡◌, ◌≤◌, ◌<◌, length};
 
-use crate::line::{Head, Line, Numbers, first_line, may_begin, names_solutions, whole_length};
+use crate::body::is_framed;
+use crate::line::{
+    Head, Line, Numbers, cut_line, first_line, may_begin, names_solutions, whole_length,
+};
 use crate::parts::number_in;
 use crate::stretches::is_open;
 
 /// Whether a line is the head of a scramble.
 pub fn is_head(line: &Line) -> bool {
     line.head_kind != Head::None
+}
+
+/// A whole scramble goes on over so many lines at most.
+const MOST_FURTHER_LINES: usize = 3;
+
+/// How many bytes the lines of a whole scramble have that begins a text, whose first line this is; 0 if none does. It may
+/// go on over further lines, which have nothing but moves.
+fn whole_scramble_length(text: &[u8], line: &Line, numbers: Numbers) -> usize
+    requires { line.now.length ≤ length text.now }
+    ensures { result ≤ length text.now }
+{
+    if !line.is_moves || text.is_empty() {
+        return 0;
+    }
+    let mut end = whole_length(text);
+    if line.is_whole {
+        return end;
+    }
+    for _ in 0..MOST_FURTHER_LINES {
+        if end == text.len() {
+            return 0;
+        }
+        let (next, length) = cut_line(&text[end..], numbers);
+        if !next.is_moves || next.is_told || is_head(&next) {
+            return 0;
+        }
+        end += length;
+        if is_framed(&text[line.moves.min(end)..end]) {
+            return end;
+        }
+    }
+    0
 }
 
 /// What a line after the moves of an attempt says of the next one.
@@ -32,7 +67,7 @@ fn next_at(text: &[u8], numbers: Numbers, is_numbered: bool) -> Next {
     let line = first_line(text, numbers);
     if line.head_kind == Head::Number && line.is_head_alone {
         Next::MayBegin
-    } else if is_head(&line) || (line.is_whole && line.is_moves) {
+    } else if is_head(&line) || whole_scramble_length(text, &line, numbers) > 0 {
         Next::Begins
     } else if line.is_moves {
         Next::HasMoves
@@ -72,14 +107,13 @@ fn lists_solutions(text: &[u8], numbers: Numbers) -> bool {
 }
 
 /// What is seen of an attempt before its lines are told: how many bytes it has; where the first line of moves begins,
-/// and the end if there is none; whether that is a whole scramble; whether prose before it is told from it, since a
-/// head stands in it or before it, or since it is one; whether the solutions of several scrambles follow it; and which
-/// numbers begin the next attempt.
+/// and the end if there is none; whether prose before it is told from it, since a head stands in it or before it, or
+/// since a whole scramble begins there; whether the solutions of several scrambles follow it; and which numbers begin the
+/// next attempt.
 #[derive(Clone, Copy)]
 pub struct Outline {
     pub length: usize,
     pub first: usize,
-    pub is_whole: bool,
     pub has_name: bool,
     pub has_several: bool,
     is_found: bool,
@@ -95,7 +129,6 @@ impl Outline {
             length: 0,
             first: 0,
             is_found: false,
-            is_whole: false,
             has_name: false,
             has_several: false,
             numbers,
@@ -111,10 +144,11 @@ impl Outline {
     {
         let mut seen = self;
         if !self.is_found {
-            seen.has_name = self.has_name || is_head(line) || (line.is_moves && line.is_whole);
+            seen.has_name = self.has_name
+                || is_head(line)
+                || whole_scramble_length(text, line, self.numbers) > 0;
             seen.has_several = !seen.has_name && (self.has_several || names_solutions(text, line));
             seen.is_found = line.is_moves;
-            seen.is_whole = line.is_whole;
             seen.first = at;
         }
         seen
@@ -178,17 +212,18 @@ pub fn outline_of(text: &[u8], numbers: Numbers) -> Outline
 }
 
 /// How many bytes the lines of a scramble have that begins a text: all up to a blank line, or to the label of the
-/// solution; the first alone if it has all of a scramble, or if a later one says what its moves are.
-pub fn scramble_length(text: &[u8], numbers: Numbers, is_whole: bool) -> usize
+/// solution; those of a whole scramble if it is one, or the first alone if a later one says what its moves are.
+pub fn scramble_length(text: &[u8], numbers: Numbers) -> usize
     ensures { result ≤ length text.now }
 {
     if text.is_empty() {
         return 0;
     }
-    let first = whole_length(text);
-    if is_whole {
-        return first;
+    let whole = whole_scramble_length(text, &first_line(text, numbers), numbers);
+    if whole > 0 {
+        return whole;
     }
+    let first = whole_length(text);
     let mut rest = &text[first..];
     while !rest.is_empty() {
         let line = first_line(rest, numbers);
