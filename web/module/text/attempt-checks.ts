@@ -16,7 +16,7 @@ import type { ToldText } from "./text-calls.js";
 /** Forms of a solution as `formPlaces` tells them, and where they stand in the text. */
 export type FormInText = Pick<FormPlace, "text" | "forms"> & { place: TextPlace };
 
-/** An attempt of a text. `check` is null if it has no solution or a fault: `fault`, whose `part` says in which line, and
+/** An attempt of a text. `check` is null if it has no solution or a fault: `fault`, whose `part` says which line, and
  * its `place` in the text. `forms` are those of a solution that was checked. `doubt` tells why an attempt may be read
  * otherwise than it was meant, and is null if it is solved, has a fault, or is in none. */
 export type AttemptCheck = {
