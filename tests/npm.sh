@@ -75,8 +75,8 @@ for resolution in "nodenext nodenext mts" "es2022 node ts"; do
     strict=(tsc --strict --exactOptionalPropertyTypes --noEmit --target es2022 --module "$kind" --moduleResolution "$way" --lib "es2022,dom")
     holds "tsc reads its types by $way" in_folder "${strict[@]}" "user.$ending" "user2.$ending"
 done
-echo 'import { loadNissy } from "nissy/node"; export const found = (await loadNissy()).solve("eofb", "R");' > "$user/server.mts"
-holds "and without dom" in_folder tsc --strict --noEmit --target es2022 --module nodenext --lib es2022 --skipLibCheck server.mts
+echo 'import { loadNissy } from "nissy/node"; export const found = (await loadNissy()).solve("eofb", "R");' > "$user/user3.mts"
+holds "and without dom" in_folder tsc --strict --noEmit --target es2022 --module nodenext --lib es2022 --skipLibCheck user3.mts
 
 # bundled, in a page. Debian's Python has Debian's selenium, whatever other Python comes first
 export SE_OFFLINE=true SE_AVOID_STATS=true

@@ -60,8 +60,9 @@ CARDS = """
     const plain = (text) => text.replace(/\\s+/g, " ").trim();
     const parts = [...document.querySelectorAll("header, .bar, .alert, .card, footer")].filter((each) => each.checkVisibility());
     // what a browser's text of a part has, and another's has not, is compared by itself: the choices of a field in Chromium, the letters of
-    // a net with blanks between them, and what is there for screen readers alone, which WebKit leaves out
-    const others = [...document.querySelectorAll("select, .net, .unseen")];
+    // a net with blanks between them, what is there for screen readers alone, which WebKit leaves out, and what is pressed in a step, before
+    // which it has no blank
+    const others = [...document.querySelectorAll("select, .net, .unseen, #line-list .acts")];
     for (const each of others) each.style.visibility = "hidden";
     const texts = parts.map((each) => [each.id || each.localName, plain(each.innerText)]);
     for (const each of others) each.style.visibility = "";
