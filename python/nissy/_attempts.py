@@ -219,10 +219,8 @@ class Reader:
         moves = self._moves.get(_OF_SCRAMBLE) or self.moves(_OF_SCRAMBLE)
         scramble, before = moves.of(begin, end), self._kinds.count(_BEFORE, begin, end)
         # the first head
-        headed, name = self._are_headed.find(1, begin, end), ""
-        if headed >= 0:
-            first = _NUMBERS * headed
-            name = self.whole.words(self._numbers[first + _BEGIN], self._numbers[first + _HEAD_END])
+        headed = self._are_headed.find(1, begin, end)
+        name = self._words(headed, _BEGIN, _HEAD_END) if headed >= 0 else ""
         if self._kinds.find(STEP, begin, end) < 0:
             return value_of(Attempt, (name, scramble, (), None, (), before, doubt))
         steps, solution, candidates = self._after_scramble(begin, end)

@@ -14,10 +14,11 @@ if sys.version_info >= (3, 8):
 else:
     CubeAxis = str
 
-# a bracket, or a move: its letters, and what follows them; the line was read by the library before
-_ITEM = re.compile("([()])|([UDRLFB]w?|[udrlfbMESxyz])(2?['\u2019]|2)?")
-# the same as it stands there, which is found sooner
-_WHOLE_ITEM = re.compile("[()]|(?:[UDRLFB]w?|[udrlfbMESxyz])(?:2?['\u2019]|2)?")
+# the letters of a move, and what follows them; the line was read by the library before
+_LETTERS, _SUFFIX = "[UDRLFB]w?|[udrlfbMESxyz]", "2?['\u2019]|2"
+# a bracket, or a move by these parts; and the same as it stands there, which is found sooner
+_ITEM = re.compile(f"([()])|({_LETTERS})({_SUFFIX})?")
+_WHOLE_ITEM = re.compile(f"[()]|(?:{_LETTERS})(?:{_SUFFIX})?")
 _QUARTERS = {"": 1, "2": 2, "'": -1, "\u2019": -1, "2'": 2, "2\u2019": 2}
 _APOSTROPHE = "\u2019"
 _SUFFIXES = {1: "", 2: "2", -1: "'"}
