@@ -164,6 +164,8 @@ struct Seen {
     has_digit: bool,
     has_mark: bool,
     is_beyond: bool,
+    /// How far its letters after the last sign beyond ASCII spell moves, if it has one.
+    behind_beyond: Option<Spelling>,
     /// Its first letter is a capital of a move, and its second a small one or beyond ASCII: a slip rather than a name.
     is_slip: bool,
 }
@@ -180,6 +182,7 @@ impl Seen {
             has_digit: false,
             has_mark: false,
             is_beyond: false,
+            behind_beyond: None,
             is_slip: false,
         }
     }
@@ -195,6 +198,10 @@ impl Seen {
                 && self.spelling == Spelling::Letter
                 && (kind == Kind::Small || kind == Kind::Beyond));
         seen.is_beyond = self.is_beyond || (self.signs == 0 && kind == Kind::Beyond);
+        seen.behind_beyond = match kind {
+            Kind::Beyond | Kind::Inner => Some(Spelling::Empty),
+            _ => self.behind_beyond.map(|spelling| spelling.with(kind, byte)),
+        };
         seen.signs = up_to_three(self.signs);
         seen.spelling = self.spelling.with(kind, byte);
         if is_capital_move(byte) {
@@ -250,10 +257,20 @@ impl Seen {
         }
     }
 
+    /// Whether moves by capitals stand at its end, after a sign beyond ASCII: Chinese has no blank between.
+    fn ends_with_moves(self) -> bool {
+        matches!(
+            self.behind_beyond,
+            Some(Spelling::Letter) | Some(Spelling::Moves)
+        )
+    }
+
     /// What a word is that spells none.
     fn no_moves(self) -> Word {
         let is_name = self.most == 2 && !self.has_prime && !self.is_slip;
-        if is_name || self.most > 2 || (self.most > 0 && self.is_beyond && !self.has_prime) {
+        if self.ends_with_moves() {
+            Word::Other
+        } else if is_name || self.most > 2 || (self.most > 0 && self.is_beyond && !self.has_prime) {
             Word::Said
         } else if self.most > 0 {
             Word::Other
