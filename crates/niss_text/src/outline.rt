@@ -14,7 +14,7 @@ pub fn is_head(line: &Line) -> bool {
 }
 
 /// A whole scramble goes on over so many lines at most.
-const MOST_FURTHER_LINES: usize = 3;
+const MOST_FURTHER_LINES: usize = 7;
 
 /// How many bytes the lines of a whole scramble have that begins a text, whose first line this is; 0 if none does. It may
 /// go on over further lines, which have nothing but moves.

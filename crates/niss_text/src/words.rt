@@ -112,9 +112,9 @@ pub enum Topic {
     Insertion,
 }
 
-/// What is said by the letters that a text begins with.
-pub fn first_topic(text: &[u8]) -> Option<Topic> {
-    if begins_one_of(text, SIDES.as_slice()) || is_letter_of_inverse(text) {
+/// What is said by the letters that a text begins with, after others.
+pub fn first_topic(text: &[u8], before: &[u8]) -> Option<Topic> {
+    if begins_one_of(text, SIDES.as_slice()) || is_letter_of_inverse(text, before) {
         Some(Topic::Side)
     } else if begins_one_of(text, REPETITIONS.as_slice()) {
         Some(Topic::Repetition)
@@ -158,15 +158,21 @@ const REPETITIONS: [&[u8]; 6] = [
     b"repeat",
 ];
 
-/// Letters by which solvers say that moves belong into others, or that others belong into these.
-const INSERTIONS: [&[u8]; 12] = [
+/// Letters by which solvers say that moves belong into others or in their place, or that others belong into these.
+const INSERTIONS: [&[u8]; 18] = [
+    b"instead",
+    b"should be",
+    b"replac",
+    b"correct",
+    b"oops",
+    b"edit:",
     b"inser",
     b"einf",
     b"wstaw",
     // "insertion" in Russian, without the first letter, in Chinese, Japanese and Korean
     b"\xd1\x81\xd1\x82\xd0\xb0\xd0\xb2\xd0\xba",
     b"\xe6\x8f\x92\xe5\x85\xa5",
-    b"\xe3\x82\xa4\xe3\x83\xb3\xe3\x82\xb5",
+    b"\xe6\x8c\xbf\xe5\x85\xa5",
     b"\xec\x82\xbd\xec\x9e\x85",
     b"skele",
     b"squel",
@@ -182,17 +188,17 @@ fn begins_one_of(text: &[u8], words: &[&[u8]]) -> bool {
 }
 
 /// Whether a text begins with an I that stands by itself, as solvers name the inverse. Before a word in small letters it
-/// is who writes, and a small one counts only at the end of what it stands in.
-fn is_letter_of_inverse(text: &[u8]) -> bool {
+/// is who writes. A small one counts only at the end of what it stands in, and after a sign or a blank.
+fn is_letter_of_inverse(text: &[u8], before: &[u8]) -> bool {
     if text.is_empty() || small(text[0]) != b'i' {
         return false;
     }
     let after = &text[1..];
-    match first_kind(after) {
-        Kind::Colon | Kind::Close | Kind::LineEnd => true,
-        Kind::Blank => text[0] == b'I' && first_kind(trimmed(after)) != Kind::Small,
-        _ => false,
+    if text[0] == b'I' && first_kind(after) == Kind::Blank {
+        return first_kind(trimmed(after)) != Kind::Small;
     }
+    let is_last = matches!(first_kind(after), Kind::Colon | Kind::Close | Kind::LineEnd);
+    is_last && (text[0] == b'I' || before.is_empty() || before[before.len() - 1] < 0x80)
 }
 
 /// Whether a text begins with the word for a side, after what ends with "normal" and a sign: that is the side on which
@@ -202,8 +208,7 @@ pub fn is_normal_side(text: &[u8], before: &[u8]) -> bool {
     word_length(text, b"side") > 0 && word_length(normal, b"normal") > 0
 }
 
-/// Whether a text begins with letters by which solvers say that moves belong into others, or that others belong into
-/// these.
+/// Whether a text begins with such letters, or with a word of three of them.
 fn begins_insertion(text: &[u8]) -> bool {
     let letters = length_of(text, Class::Letters);
     is_word(&text[..letters], b"ins") || begins_one_of(text, INSERTIONS.as_slice())
