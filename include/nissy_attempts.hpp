@@ -128,7 +128,12 @@ inline std::string trimmed(std::string_view text) {
 }
 
 // Some bytes of a text without the blanks around them.
-inline std::string words_of(std::string_view text, std::size_t begin, std::size_t end) { return trimmed(text.substr(begin, end - begin)); }
+// Without signs in front that quote a line.
+inline std::string words_of(std::string_view text, std::size_t begin, std::size_t end) {
+    std::string words = trimmed(text.substr(begin, end - begin));
+    while (!words.empty() && words.front() == '>') words = trimmed(std::string_view(words).substr(1));
+    return words;
+}
 
 inline std::string label_of(std::string_view text, const nissy_text_line &line) { return words_of(text, line.label_begin, line.label_end); }
 

@@ -21,6 +21,8 @@ WHITE = (
     "\n\t\v\f\r \u00a0\u1680\u2000\u2001\u2002\u2003\u2004\u2005\u2006\u2007\u2008\u2009\u200a\u2028\u2029\u202f"
     "\u205f\u3000\ufeff"
 )
+# the same, and what quotes a line
+_QUOTED = f">{WHITE}"
 # bytes that a line may have in place of others
 _OWN = b" ()"
 # 1 for each byte with which a sign begins, of a text in UTF-8
@@ -135,11 +137,11 @@ class Written:
         return self.place(byte if self._characters is None else self._characters[byte])
 
     def words(self, begin: int, end: int) -> str:
-        """Returns some bytes as words."""
+        """Returns some bytes as words, without signs in front that quote a line."""
         characters = self._characters
         if characters is not None:
             begin, end = characters[begin], characters[end]
-        return self.text[begin:end].strip(WHITE)
+        return self.text[begin:end].rstrip(WHITE).lstrip(_QUOTED)
 
     def plain(self, written: WrittenLine) -> PlainLine:
         """Returns a line that was written of this text."""

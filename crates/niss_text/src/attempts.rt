@@ -5,7 +5,7 @@ ghost use Rattle.niss_text.specs.Lines.{IsLine, Covers, Counts, Takes, AreNumber
 use crate::doubts::judged;
 use crate::groups::{Group, Solutions};
 use crate::line::{Line, Numbers, cut_line, first_line, whole_length};
-use crate::outline::{is_head, length_behind_scramble, outline_of, scramble_length};
+use crate::outline::{is_head, length_behind_scramble, outline_of};
 use crate::status::Status;
 use crate::stretches::{has_extras, numbers_of, stretch_length};
 use crate::text_line::{LineKind, Role, TextLine, told_line};
@@ -56,7 +56,7 @@ fn first_attempt(text: &[u8], numbers: Numbers, number: usize) -> Attempt
 {
     let seen = outline_of(text, numbers);
     let lines = &text[..seen.length];
-    let scramble_end = seen.first + scramble_length(&lines[seen.first..], numbers);
+    let scramble_end = seen.scramble_end(lines, numbers);
     let solutions = solutions_of(&lines[scramble_end..], numbers);
     Attempt {
         number,

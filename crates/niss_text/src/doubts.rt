@@ -97,13 +97,13 @@ fn small_alone(text: &[u8], from: usize, to: usize) -> usize
     }
 }
 
-/// What makes one doubt moves of which something is said by the letters that a text begins with. A side counts only
-/// if the moves have no brackets.
-fn doubt_of_words(text: &[u8], has_brackets: bool) -> Doubt
+/// What makes one doubt moves of which something is said by the letters that a text begins with, after others. A side
+/// counts only if the moves have no brackets.
+fn doubt_of_words(text: &[u8], before: &[u8], has_brackets: bool) -> Doubt
     ensures others { (number_of result ≡ 4 → ⊥) × (number_of result ≡ 5 → ⊥) }
     ensures said { (number_of result ≡ 1 → ⊥) × ((number_of result ≡ 2 → ⊥) × (number_of result ≡ 6 → ⊥)) }
 {
-    match first_topic(text) {
+    match first_topic(text, before) {
         Some(Topic::Side) if !has_brackets => Doubt::Side,
         Some(Topic::Repetition) => Doubt::Repetition,
         Some(Topic::Insertion) => Doubt::Insertion,
@@ -123,11 +123,12 @@ fn first_said(text: &[u8], from: usize, to: usize, has_brackets: bool) -> (Doubt
     for at in from..to {
         let rest = &text[at..to];
         let is_begun = at == from || !is_letter(text[at.saturating_sub(1)]);
-        if is_normal_side(rest, &text[from..at]) {
+        let before = &text[from..at];
+        if is_normal_side(rest, before) {
             continue;
         }
         if is_begun || (matches!(text[at], b'i' | b'I') && word_length(rest, b"inv") > 0) {
-            let doubt = doubt_of_words(rest, has_brackets);
+            let doubt = doubt_of_words(rest, before, has_brackets);
             if doubt != Doubt::Nothing {
                 return (doubt, at);
             }

@@ -32,7 +32,7 @@ impl Group {
     fn is_ended_by(&self, line: &Line) -> bool {
         self.is_ended
             || (self.has_moves && line.is_solution)
-            || (self.is_line && line.is_told && line.is_moves)
+            || (self.is_line && line.is_told() && line.is_moves)
     }
 
     /// After one more line. A blank line ends a group, but one of a label alone, which belongs to what follows it.

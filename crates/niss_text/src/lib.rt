@@ -20,6 +20,7 @@ mod plain;
 mod sights;
 mod sign;
 mod span;
+mod spelling;
 mod status;
 mod stretches;
 mod text_line;

@@ -7,7 +7,7 @@ use crate::body::{has_frame, is_whole_scramble};
 use crate::forms::{
     begins_comment, head_length, label_of, line_length, listed_length, number_length,
 };
-use crate::sign::{Class, first_sign, is_digit_byte, length_of, trimmed};
+use crate::sign::{Class, behind, first_sign, is_digit_byte, length_of, trimmed};
 use crate::span::span_of;
 use crate::word::are_plain_moves;
 use crate::words::{Wanted, is_word, says};
@@ -31,6 +31,16 @@ pub enum Head {
     Word,
 }
 
+/// What stands in a line beside its moves.
+#[derive(Clone, Copy, PartialEq, Eq)]
+pub enum Beside {
+    Nothing,
+    /// Signs without letters before them, such as `- `.
+    Signs,
+    /// Words before or after them.
+    Words,
+}
+
 /// What is seen of a line: how many bytes its head has, where the words of its label begin and end, where its moves and
 /// what is said after them begin, where slashes begin a comment, and what these say.
 #[derive(Clone, Copy)]
@@ -48,7 +58,7 @@ pub struct Line {
     pub is_blank: bool,
     pub is_head_alone: bool,
     pub is_moves: bool,
-    pub is_told: bool,
+    pub beside: Beside,
     pub is_solution: bool,
     pub is_final: bool,
     pub is_step: bool,
@@ -83,12 +93,17 @@ impl Line {
             is_blank: moves == length && head.0 == Head::None,
             is_head_alone: moves == length && head.0 != Head::None,
             is_moves: moves < length,
-            is_told: head.0 == Head::Word,
+            beside: seen_beside(&[], head.0 == Head::Word),
             is_solution: false,
             is_final: false,
             is_step: false,
             is_whole,
         }
+    }
+
+    /// Whether words say what it is.
+    pub fn is_told(&self) -> bool {
+        self.beside == Beside::Words
     }
 
     /// Whether something is said after its moves.
@@ -116,6 +131,17 @@ fn blanks(line: &[u8]) -> usize
     ensures { result ≤ length line.now }
 {
     line.len() - trimmed(line).len()
+}
+
+/// How many bytes of blanks and of signs that quote it, such as `> `, a line begins with.
+fn margin(line: &[u8]) -> usize
+    ensures { result ≤ length line.now }
+{
+    let mut rest = trimmed(line);
+    while !rest.is_empty() && rest[0] == b'>' {
+        rest = trimmed(&rest[1..]);
+    }
+    line.len() - rest.len()
 }
 
 /// Whether one of the words of a label is this one.
@@ -191,7 +217,7 @@ fn parts_of(line: &[u8], head: usize) -> Parts
     ensures fits { result.slashes ≤ length line.now }
 {
     let slashes = head + comment_at(&line[head..]);
-    let number_begin = head + blanks(&line[head..slashes]);
+    let number_begin = head + margin(&line[head..slashes]);
     let number_end = number_begin + number_length(&line[number_begin..slashes]);
     let begin = number_end + blanks(&line[number_end..slashes]);
     let (words, title) = match label_of(&line[begin..slashes]) {
@@ -213,6 +239,17 @@ fn parts_of(line: &[u8], head: usize) -> Parts
     }
 }
 
+/// What stands beside the moves of a line that has this label, and other words or not.
+fn seen_beside(label: &[u8], has_words: bool) -> Beside {
+    if has_words || !behind(label, Class::NoLetters).is_empty() {
+        Beside::Words
+    } else if label.is_empty() {
+        Beside::Nothing
+    } else {
+        Beside::Signs
+    }
+}
+
 /// A line that isn't blank without what stands in front of it, which has that many bytes.
 fn line_behind(line: &[u8], head_kind: Head, head: usize) -> Line
     requires { head ≤ length line.now }
@@ -224,7 +261,7 @@ fn line_behind(line: &[u8], head_kind: Head, head: usize) -> Line
     let label = &line[parts.label_begin..parts.label_end];
     let body = &line[parts.moves..parts.comment];
     let is_solution = has_word(label, b"solution");
-    let is_told = parts.label_begin < parts.label_end || parts.comment < line.len();
+    let has_words = head_kind == Head::Word || parts.comment < line.len();
     Line {
         head_kind,
         head,
@@ -238,7 +275,7 @@ fn line_behind(line: &[u8], head_kind: Head, head: usize) -> Line
         is_blank: false,
         is_head_alone: head_kind != Head::None && blanks(&line[head..]) == line.len() - head,
         is_moves: parts.is_moves,
-        is_told: is_told || head_kind == Head::Word,
+        beside: seen_beside(label, has_words),
         is_solution,
         is_final: is_solution && has_word(label, b"final"),
         is_step: says(label, Wanted::Step) || says(&line[parts.comment..], Wanted::Step),
@@ -268,7 +305,7 @@ pub fn line_of(line: &[u8], numbers: Numbers) -> Line
     if are_plain_moves(line) && line[0] != b'E' {
         return Line::bare((Head::None, 0), 0, line.len(), is_whole_scramble(line));
     }
-    let begin = blanks(line);
+    let begin = margin(line);
     if begin == line.len() {
         return Line::bare((Head::None, 0), begin, begin, false);
     }
@@ -330,19 +367,19 @@ pub fn whole_length(text: &[u8]) -> usize
 /// Whether the first line of a text begins with the word that stands before a scramble.
 pub fn begins_with_head(text: &[u8]) -> bool {
     let line = &text[..line_length(text)];
-    head_of(&line[blanks(line)..], Numbers::OfLines).0 == Head::Word
+    head_of(&line[margin(line)..], Numbers::OfLines).0 == Head::Word
 }
 
 /// Whether the first line of a text begins with a number that may tell scrambles apart.
 pub fn begins_with_number(text: &[u8], numbers: Numbers) -> bool {
     let line = &text[..line_length(text)];
-    head_of(&line[blanks(line)..], numbers).0 == Head::Number
+    head_of(&line[margin(line)..], numbers).0 == Head::Number
 }
 
 /// Whether the first line of a text may begin an attempt: by a head, or as a whole scramble.
 pub fn may_begin(text: &[u8], numbers: Numbers) -> bool {
     let line = &text[..line_length(text)];
-    head_of(&line[blanks(line)..], numbers).0 != Head::None || has_frame(line)
+    head_of(&line[margin(line)..], numbers).0 != Head::None || has_frame(line)
 }
 
 /// Whether a line, which is the first one of a text, names solutions and has no moves.

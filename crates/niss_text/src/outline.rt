@@ -3,7 +3,7 @@ ghost use Rattle.std.specs.Prelude.{◌≡◌, ◌≤◌, ◌<◌, length};
 
 use crate::body::is_framed;
 use crate::line::{
-    Head, Line, Numbers, cut_line, first_line, may_begin, names_solutions, whole_length,
+    Beside, Head, Line, Numbers, cut_line, first_line, may_begin, names_solutions, whole_length,
 };
 use crate::parts::number_in;
 use crate::stretches::is_open;
@@ -14,7 +14,7 @@ pub fn is_head(line: &Line) -> bool {
 }
 
 /// A whole scramble goes on over so many lines at most.
-const MOST_FURTHER_LINES: usize = 3;
+const MOST_FURTHER_LINES: usize = 7;
 
 /// How many bytes the lines of a whole scramble have that begins a text, whose first line this is; 0 if none does. It may
 /// go on over further lines, which have nothing but moves.
@@ -34,7 +34,7 @@ fn whole_scramble_length(text: &[u8], line: &Line, numbers: Numbers) -> usize
             return 0;
         }
         let (next, length) = cut_line(&text[end..], numbers);
-        if !next.is_moves || next.is_told || is_head(&next) {
+        if !next.is_moves || next.is_told() || is_head(&next) {
             return 0;
         }
         end += length;
@@ -107,13 +107,14 @@ fn lists_solutions(text: &[u8], numbers: Numbers) -> bool {
 }
 
 /// What is seen of an attempt before its lines are told: how many bytes it has; where the first line of moves begins,
-/// and the end if there is none; whether prose before it is told from it, since a head stands in it or before it, or
-/// since a whole scramble begins there; whether the solutions of several scrambles follow it; and which numbers begin the
-/// next attempt.
+/// and the end if there is none; how many bytes the whole scramble has that begins there, 0 if none does; whether prose
+/// before it is told from it, since a head stands in it or before it, or since it is whole; whether the solutions of
+/// several scrambles follow it; and which numbers begin the next attempt.
 #[derive(Clone, Copy)]
 pub struct Outline {
     pub length: usize,
     pub first: usize,
+    whole: usize,
     pub has_name: bool,
     pub has_several: bool,
     is_found: bool,
@@ -128,6 +129,7 @@ impl Outline {
         Outline {
             length: 0,
             first: 0,
+            whole: 0,
             is_found: false,
             has_name: false,
             has_several: false,
@@ -144,9 +146,8 @@ impl Outline {
     {
         let mut seen = self;
         if !self.is_found {
-            seen.has_name = self.has_name
-                || is_head(line)
-                || whole_scramble_length(text, line, self.numbers) > 0;
+            seen.whole = whole_scramble_length(text, line, self.numbers);
+            seen.has_name = self.has_name || is_head(line) || seen.whole > 0;
             seen.has_several = !seen.has_name && (self.has_several || names_solutions(text, line));
             seen.is_found = line.is_moves;
             seen.first = at;
@@ -177,6 +178,18 @@ impl Outline {
             first: if self.is_found { self.first } else { length },
             ..self
         }
+    }
+
+    /// Where the lines of its scramble end, of an attempt that has this text.
+    pub fn scramble_end(&self, text: &[u8], numbers: Numbers) -> usize
+        requires first { self.now.first ≤ length text.now }
+        ensures { (self.now.first ≤ result) × (result ≤ length text.now) }
+    {
+        let scramble = &text[self.first..];
+        if self.whole > 0 {
+            return self.first + self.whole.min(scramble.len());
+        }
+        self.first + scramble_length(scramble, numbers)
     }
 }
 
@@ -211,18 +224,15 @@ pub fn outline_of(text: &[u8], numbers: Numbers) -> Outline
     seen.ended(text.len())
 }
 
-/// How many bytes the lines of a scramble have that begins a text: all up to a blank line, or to the label of the
-/// solution; those of a whole scramble if it is one, or the first alone if a later one says what its moves are.
-pub fn scramble_length(text: &[u8], numbers: Numbers) -> usize
+/// How many bytes the lines of a scramble have that begins a text and isn't whole: all up to a blank line, or to the label
+/// of the solution, or the first alone if words of a later one say what its moves are, or a sign that the first hasn't.
+fn scramble_length(text: &[u8], numbers: Numbers) -> usize
     ensures { result ≤ length text.now }
 {
     if text.is_empty() {
         return 0;
     }
-    let whole = whole_scramble_length(text, &first_line(text, numbers), numbers);
-    if whole > 0 {
-        return whole;
-    }
+    let has_sign = first_line(text, numbers).beside == Beside::Signs;
     let first = whole_length(text);
     let mut rest = &text[first..];
     while !rest.is_empty() {
@@ -230,7 +240,7 @@ pub fn scramble_length(text: &[u8], numbers: Numbers) -> usize
         if line.is_blank || line.is_solution {
             return text.len() - rest.len();
         }
-        if line.is_told {
+        if line.is_told() || (line.beside == Beside::Signs && !has_sign) {
             return first;
         }
         rest = &rest[whole_length(rest)..];

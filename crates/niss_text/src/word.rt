@@ -3,6 +3,7 @@ ghost use Rattle.std.specs.Prelude.{◌≡◌, ◌≤◌, ◌<◌, true, false, 
 
 use crate::forms::count_length;
 use crate::sign::{Kind, first_sign};
+use crate::spelling::{Spelling, is_capital_move, is_small_move};
 use crate::words::is_step_name;
 
 /// What a word of a line is.
@@ -20,12 +21,16 @@ pub enum Word {
     Name,
     /// Letters that stand together and spell none, or the name of a step, such as `DR`.
     Said,
+    /// Such letters, and moves at a sign between them, as `EO=F'`.
+    Glued,
     /// Signs without letters and digits, such as `->`.
     Mark,
     /// Digits with other signs, such as `0:12`.
     Stamp,
-    /// Digits or apostrophes without a letter.
+    /// A digit, or digits with apostrophes, without a letter.
     Number,
+    /// Two digits or more, which count moves: one by itself may be of a move.
+    Total,
     /// A letter that spells no move, such as `Q` or `Ri`.
     Other,
 }
@@ -39,71 +44,6 @@ impl Word {
             self
         }
     }
-}
-
-/// How far a word spells moves.
-#[derive(Clone, Copy, PartialEq, Eq)]
-enum Spelling {
-    Empty,
-    /// Moves by capitals, up to a letter that may be a wide turn's.
-    Letter,
-    /// Moves by capitals.
-    Moves,
-    /// A move by a small letter.
-    Small,
-    Other,
-}
-
-impl Spelling {
-    /// With one more sign, which begins with this byte.
-    fn with(self, kind: Kind, byte: u8) -> Spelling {
-        match self {
-            Spelling::Empty => Spelling::begun(byte),
-            Spelling::Letter | Spelling::Moves => {
-                if is_capital_move(byte) {
-                    Spelling::Letter
-                } else if is_suffix(kind, byte) || (byte == b'w' && self == Spelling::Letter) {
-                    Spelling::Moves
-                } else {
-                    Spelling::Other
-                }
-            }
-            Spelling::Small if is_suffix(kind, byte) => Spelling::Small,
-            _ => Spelling::Other,
-        }
-    }
-
-    /// With this byte as the first.
-    fn begun(byte: u8) -> Spelling {
-        if is_capital_move(byte) {
-            Spelling::Letter
-        } else if is_small_move(byte) {
-            Spelling::Small
-        } else {
-            Spelling::Other
-        }
-    }
-}
-
-/// Whether a byte is the capital of a move.
-fn is_capital_move(byte: u8) -> bool {
-    matches!(
-        byte,
-        b'U' | b'D' | b'R' | b'L' | b'F' | b'B' | b'M' | b'E' | b'S'
-    )
-}
-
-/// Whether a byte is the small letter of a move.
-fn is_small_move(byte: u8) -> bool {
-    matches!(
-        byte,
-        b'u' | b'd' | b'r' | b'l' | b'f' | b'b' | b'x' | b'y' | b'z'
-    )
-}
-
-/// Whether a sign may stand after the letter of a move.
-fn is_suffix(kind: Kind, byte: u8) -> bool {
-    byte == b'2' || kind.is_prime()
 }
 
 /// Whether a sign begins a letter.
@@ -250,6 +190,13 @@ impl Seen {
         }
     }
 
+    /// Whether a part of a word spells moves by capitals, and no name.
+    fn is_glued(self, has_dash: bool) -> bool {
+        matches!(self.spelling, Spelling::Letter | Spelling::Moves)
+            && self.moves() != Word::Name
+            && (!has_dash || self.has_prime || self.has_digit)
+    }
+
     /// What a word is that spells none.
     fn no_moves(self) -> Word {
         let is_name = self.most == 2 && !self.has_prime && !self.is_slip;
@@ -257,6 +204,8 @@ impl Seen {
             Word::Said
         } else if self.most > 0 {
             Word::Other
+        } else if !self.has_prime && !self.has_mark && self.signs > 1 {
+            Word::Total
         } else if self.has_prime || !self.has_mark {
             Word::Number
         } else if self.has_digit {
@@ -265,6 +214,39 @@ impl Seen {
             Word::Mark
         }
     }
+}
+
+/// Whether a sign in a word parts moves from what they are glued to.
+fn is_joint(kind: Kind, byte: u8) -> bool {
+    match kind {
+        Kind::Other => byte != b'.' && byte != b'&',
+        // others are letters of alphabets
+        Kind::Beyond => byte == 0xc2 || byte >= 0xe2,
+        Kind::Colon | Kind::Dash | Kind::Slash => true,
+        _ => false,
+    }
+}
+
+/// Whether a part of a word between such signs is moves. Beside a dash or a slash they have a 2 or an apostrophe: solvers
+/// write axes so, as `EO-FB`.
+fn has_glued_moves(word: &[u8]) -> bool {
+    let has_dash = word.iter().any(|byte| matches!(*byte, b'-' | b'/'));
+    let mut part = Seen::nothing();
+    let mut rest = word;
+    while !rest.is_empty() {
+        let sign = first_sign(rest);
+        let is_of_joint = sign.kind == Kind::Inner && part.signs == 0;
+        if is_of_joint || is_joint(sign.kind, rest[0]) {
+            if part.is_glued(has_dash) {
+                return true;
+            }
+            part = Seen::nothing();
+        } else {
+            part = part.with(sign.kind, rest[0]);
+        }
+        rest = &rest[sign.length..];
+    }
+    part.is_glued(has_dash)
 }
 
 /// What is seen of the word that a text begins with, and how many bytes it has, one sign at least.
@@ -333,7 +315,13 @@ pub fn first_word(text: &[u8]) -> (Word, usize)
         Kind::Blank | Kind::Comma | Kind::LineEnd | Kind::Unseen => (Word::Parting, sign.length),
         _ => {
             let (seen, length) = spelled_word(text);
-            (seen.word().or_step(&text[..length]), length)
+            let word = seen.word().or_step(&text[..length]);
+            let may_have_moves = word == Word::Said && seen.has_mark && seen.capitals > 0;
+            if may_have_moves && has_glued_moves(&text[..length]) {
+                (Word::Glued, length)
+            } else {
+                (word, length)
+            }
         }
     }
 }

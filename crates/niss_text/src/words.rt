@@ -112,11 +112,11 @@ pub enum Topic {
     Insertion,
 }
 
-/// What is said by the letters that a text begins with.
-pub fn first_topic(text: &[u8]) -> Option<Topic> {
-    if begins_side(text) {
+/// What is said by the letters that a text begins with, after others.
+pub fn first_topic(text: &[u8], before: &[u8]) -> Option<Topic> {
+    if begins_one_of(text, SIDES.as_slice()) || is_letter_of_inverse(text, before) {
         Some(Topic::Side)
-    } else if begins_repetition(text) {
+    } else if begins_one_of(text, REPETITIONS.as_slice()) {
         Some(Topic::Repetition)
     } else if begins_insertion(text) {
         Some(Topic::Insertion)
@@ -125,35 +125,80 @@ pub fn first_topic(text: &[u8]) -> Option<Topic> {
     }
 }
 
-/// Whether a text begins with letters by which solvers name another side of the cube than the normal one, on which
-/// moves are read anyway, or a change of it.
-fn begins_side(text: &[u8]) -> bool {
-    if text.is_empty() {
-        return false;
-    }
-    match small(text[0]) {
-        b'i' => word_length(text, b"inv") > 0 || is_letter_of_inverse(text),
-        b'n' => word_length(text, b"niss") > 0,
-        b'p' => word_length(text, b"premov") > 0 || word_length(text, b"pre-mov") > 0,
-        b's' => word_length(text, b"switch") > 0 || word_length(text, b"side") > 0,
-        b'r' => word_length(text, b"revers") > 0,
-        b'b' => word_length(text, b"backward") > 0 || word_length(text, b"back to normal") > 0,
-        _ => false,
-    }
+/// Letters by which solvers name another side of the cube than the normal one, on which moves are read anyway, or a change
+/// of it. Those of Cyrillic are without the first, which may be a capital.
+const SIDES: [&[u8]; 16] = [
+    b"inv",
+    b"niss",
+    b"premov",
+    b"pre-mov",
+    b"switch",
+    b"side",
+    b"revers",
+    b"backward",
+    b"back to normal",
+    b"r\xc3\xbcck",
+    b"odwr",
+    // "inverse" and "back" in Russian
+    b"\xd0\xbd\xd0\xb2\xd0\xb5\xd1\x80\xd1\x81",
+    b"\xd0\xb1\xd1\x80\xd0\xb0\xd1\x82\xd0\xbd",
+    // the sign for it in Chinese and Japanese, and in Korean
+    b"\xe9\x80\x86",
+    b"\xec\x97\xad",
+    b"\xec\x9d\xb8\xeb\xb2\x84\xec\x8a\xa4",
+];
+
+/// Letters by which solvers say that moves are made several times.
+const REPETITIONS: [&[u8]; 6] = [
+    b"twice",
+    b"thrice",
+    b"times",
+    b"again",
+    b"once more",
+    b"repeat",
+];
+
+/// Letters by which solvers say that moves belong into others or in their place, or that others belong into these.
+const INSERTIONS: [&[u8]; 18] = [
+    b"instead",
+    b"should be",
+    b"replac",
+    b"correct",
+    b"oops",
+    b"edit:",
+    b"inser",
+    b"einf",
+    b"wstaw",
+    // "insertion" in Russian, without the first letter, in Chinese, Japanese and Korean
+    b"\xd1\x81\xd1\x82\xd0\xb0\xd0\xb2\xd0\xba",
+    b"\xe6\x8f\x92\xe5\x85\xa5",
+    b"\xe6\x8c\xbf\xe5\x85\xa5",
+    b"\xec\x82\xbd\xec\x9e\x85",
+    b"skele",
+    b"squel",
+    b"esquel",
+    b"schele",
+    // "skeleton" in Chinese and Japanese
+    b"\xe9\xaa\xa8\xe6\x9e\xb6",
+];
+
+/// Whether a text begins with one of these, which have small letters.
+fn begins_one_of(text: &[u8], words: &[&[u8]]) -> bool {
+    words.iter().any(|word| word_length(text, word) > 0)
 }
 
 /// Whether a text begins with an I that stands by itself, as solvers name the inverse. Before a word in small letters it
-/// is who writes.
-fn is_letter_of_inverse(text: &[u8]) -> bool {
-    if text.is_empty() || text[0] != b'I' {
+/// is who writes. A small one counts only at the end of what it stands in, and after a sign or a blank.
+fn is_letter_of_inverse(text: &[u8], before: &[u8]) -> bool {
+    if text.is_empty() || small(text[0]) != b'i' {
         return false;
     }
     let after = &text[1..];
-    let is_alone = matches!(
-        first_kind(after),
-        Kind::Blank | Kind::Colon | Kind::Close | Kind::LineEnd
-    );
-    is_alone && first_kind(trimmed(after)) != Kind::Small
+    if text[0] == b'I' && first_kind(after) == Kind::Blank {
+        return first_kind(trimmed(after)) != Kind::Small;
+    }
+    let is_last = matches!(first_kind(after), Kind::Colon | Kind::Close | Kind::LineEnd);
+    is_last && (text[0] == b'I' || before.is_empty() || before[before.len() - 1] < 0x80)
 }
 
 /// Whether a text begins with the word for a side, after what ends with "normal" and a sign: that is the side on which
@@ -163,34 +208,10 @@ pub fn is_normal_side(text: &[u8], before: &[u8]) -> bool {
     word_length(text, b"side") > 0 && word_length(normal, b"normal") > 0
 }
 
-/// Whether a text begins with letters by which solvers say that moves are made several times.
-fn begins_repetition(text: &[u8]) -> bool {
-    word_length(text, b"twice") > 0
-        || word_length(text, b"thrice") > 0
-        || word_length(text, b"times") > 0
-        || word_length(text, b"again") > 0
-        || word_length(text, b"once more") > 0
-        || word_length(text, b"repeat") > 0
-}
-
-/// Whether a text begins with letters by which solvers say that moves belong into others, or that others belong into
-/// these.
+/// Whether a text begins with such letters, or with a word of three of them.
 fn begins_insertion(text: &[u8]) -> bool {
     let letters = length_of(text, Class::Letters);
-    is_word(&text[..letters], b"ins")
-        || word_length(text, b"inser") > 0
-        || word_length(text, b"einf") > 0
-        || word_length(text, "\u{63d2}\u{5165}".as_bytes()) > 0
-        || begins_skeleton(text)
-}
-
-/// Whether a text begins with letters by which solvers name moves into which others belong.
-fn begins_skeleton(text: &[u8]) -> bool {
-    word_length(text, b"skele") > 0
-        || word_length(text, b"squel") > 0
-        || word_length(text, b"esquel") > 0
-        || word_length(text, b"schele") > 0
-        || word_length(text, "\u{9aa8}\u{67b6}".as_bytes()) > 0
+    is_word(&text[..letters], b"ins") || begins_one_of(text, INSERTIONS.as_slice())
 }
 
 /// How many bytes the word has that stands before each of several scrambles, if a text begins with one; else 0.

@@ -148,9 +148,9 @@ export class WrittenText {
     return this.#units === null ? byte : this.#units[byte];
   }
 
-  /** What stands from one byte to another, without white space around it. */
+  /** What stands from one byte to another, without white space around it or signs in front that quote it. */
   part(begin: number, end: number) {
-    return this.#text.slice(this.unit(begin), this.unit(end)).trim();
+    return this.#text.slice(this.unit(begin), this.unit(end)).trimEnd().replace(/^[\s>]+/u, "");
   }
 
   /** @returns a line that was written of the text in units, and the unit of each of its own */
