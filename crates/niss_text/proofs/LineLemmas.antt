@@ -1,7 +1,7 @@
 -- One more line of a text.
 use Rattle.std.proofs.Common.{◌≡◌, ℕ, zero, suc, ◌+◌, ◌-◌, ◌<◌, ◌≤◌, ◌⊎◌, inl, inr, List, [], ◌∷◌, ◌++◌, length, take, drop, set, get_or, zero-add, refl, sym, subst, ap, ◌∙◌, arith}
 use Rattle.std.proofs.lemmas.Bool.{cases_lt}
-use Rattle.std.proofs.lemmas.List.{take_more_set, drop-set-lt, drop-drop, get_or-drop, length-drop}
+use Rattle.std.proofs.lemmas.List.{take_more_set, take_all, set_past, drop-set-lt, drop-drop, get_or-drop, length-drop}
 use Rattle.niss_text.specs.declared.text_line.TextLine.{TextLine}
 use Rattle.niss_text.specs.Signs.{ends_line}
 use Rattle.niss_text.specs.Doubts.{IsDoubted}
@@ -122,6 +122,18 @@ more_behind lines first count more le far =
     let split : count + (more - count) ≡ more = omega arith in
     ap (λ n. drop n lines) (sym split) ∙ sym (drop-drop (more - count) count lines) ∙ ap (λ v. drop (more - count) v) far
     ∙ drop-drop (more - count) count first ∙ ap (λ n. drop n first) split
+
+-- one more line, or none if there is no room
+pub one_more : (P : List TextLine → Type 0) (lines : List TextLine) (count : ℕ) (line : TextLine) → P (take count lines) →
+    (count < length lines → P (take (count + 1) (set lines count line))) → P (take (count + 1) (set lines count line))
+one_more P lines count line is more = by_room (cases_lt count (length lines))
+  where
+    by_room : (count < length lines) ⊎ (length lines ≤ count) → P (take (count + 1) (set lines count line))
+    by_room (inl room) = more room
+    by_room (inr full) =
+        let past : set lines count line ≡ lines = set_past lines count line full in
+        let whole : take (count + 1) lines ≡ take count lines = take_all (count + 1) lines (omega (arith, full)) ∙ sym (take_all count lines full) in
+        subst (λ (ls : List TextLine). P ls) (sym (ap (λ ls. take (count + 1) ls) past ∙ whole)) is
 
 pub numbered_none : AreNumbered 0 [] 0
 unfolding AreNumbered

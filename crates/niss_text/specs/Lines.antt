@@ -61,3 +61,10 @@ unfoldable pub AreNumbered : ℕ → List TextLine → ℕ → Type 0
 AreNumbered seen [] all = seen ≡ all
 AreNumbered seen (line ∷ lines) all =
     ((line.attempt ≡ seen) × AreNumbered (seen + 1) lines all) ⊎ ((line.attempt + 1 ≡ seen) × AreNumbered seen lines all)
+
+-- Those are a text's first lines, in order, and so are the numbers of their attempts.
+abbrev pub Begins : List ℕ → List TextLine → Type 0
+Begins text lines = (to : ℕ) × Covers text 0 lines to
+
+abbrev pub BeginNumbered : List TextLine → Type 0
+BeginNumbered lines = (all : ℕ) × AreNumbered 0 lines all

@@ -1,6 +1,6 @@
 //! The attempts of a text as solvers write it: which of its lines are scrambles, steps and notes.
 ghost use Rattle.std.specs.Prelude.{◌≡◌, ◌≤◌, ◌<◌, ◌+◌, length, take, drop, set};
-ghost use Rattle.niss_text.specs.Lines.{IsLine, Covers, Counts, Takes, AreNumbered};
+ghost use Rattle.niss_text.specs.Lines.{IsLine, Covers, Counts, Takes, AreNumbered, Begins, BeginNumbered};
 
 use crate::doubts::judged;
 use crate::groups::{Group, Solutions};
@@ -133,6 +133,10 @@ fn put_attempt(
     ensures counts { Counts text.now 0 written begin → Counts text.now 0 result.0 result.1 }
     ensures numbers { AreNumbered 0 (take written lines.old) attempt.now.number → result.0 ≤ length lines.new →
         AreNumbered 0 (take result.0 lines.new) (attempt.now.number + 1) }
+    ensures begins { (written ≤ length lines.old → Covers text.now 0 (take written lines.old) begin) →
+        Begins text.now (take written lines.old) → Begins text.now (take result.0 lines.new) }
+    ensures in_order { (written ≤ length lines.old → AreNumbered 0 (take written lines.old) attempt.now.number) →
+        BeginNumbered (take written lines.old) → BeginNumbered (take result.0 lines.new) }
     ensures behind { drop result.0 lines.new ≡ drop result.0 lines.old }
 {
     let mut at = 0;
@@ -197,6 +201,10 @@ pub fn put_attempts(text: &[u8], end: usize, so_far: Progress, lines: &mut [Text
     ensures counts { Counts text.now 0 so_far.lines so_far.at → Counts text.now 0 result.lines result.at }
     ensures numbers { AreNumbered 0 (take so_far.lines lines.old) so_far.attempts → so_far.attempts ≤ so_far.at →
         result.lines ≤ length lines.new → AreNumbered 0 (take result.lines lines.new) result.attempts }
+    ensures begins { (so_far.lines ≤ length lines.old → Covers text.now 0 (take so_far.lines lines.old) so_far.at) →
+        Begins text.now (take so_far.lines lines.old) → Begins text.now (take result.lines lines.new) }
+    ensures in_order { (so_far.lines ≤ length lines.old → AreNumbered 0 (take so_far.lines lines.old) so_far.attempts) →
+        so_far.attempts ≤ so_far.at → BeginNumbered (take so_far.lines lines.old) → BeginNumbered (take result.lines lines.new) }
     ensures behind { drop result.lines lines.new ≡ drop result.lines lines.old }
 {
     let has_extras = has_extras(&text[so_far.at.min(end)..end]);
@@ -267,11 +275,14 @@ fn solution_alone(text: &[u8]) -> Attempt
 }
 
 /// Tells of each line of a text what it is, as long as there is room: the answer has how many lines there are, and says
-/// `NoRoom` if these are more than have room. A text has no more lines than bytes. What follows them stays as it is.
+/// `NoRoom` if these are more than have room: then the first ones stand there. A text has no more lines than bytes. What
+/// follows them stays as it is.
 pub fn text_lines(text: &[u8], lines: &mut [TextLine]) -> TextAnswer
     ensures covers { result.lines ≤ length lines.old → Covers text.now 0 (take result.lines lines.new) (length text.now) }
     ensures counts { Counts text.now 0 result.lines (length text.now) }
     ensures numbers { result.lines ≤ length lines.old → AreNumbered 0 (take result.lines lines.new) result.attempts }
+    ensures begins { Begins text.now (take result.lines lines.new) }
+    ensures in_order { BeginNumbered (take result.lines lines.new) }
     ensures few { result.lines ≤ length text.now }
     ensures done { result.lines ≤ length lines.old → result.status ≡ 0 }
     ensures room { length lines.old < result.lines → result.status ≡ 4 }

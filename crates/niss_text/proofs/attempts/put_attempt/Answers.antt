@@ -1,8 +1,8 @@
 use Rattle.std.proofs.Common.{◌≡◌, ◌+◌, ◌<◌, ℕ, List, length, take, drop, set, sym, ap, ◌∙◌, subst, arith}
 use Rattle.std.proofs.lemmas.List.{length-set, length-drop}
 use Rattle.niss_text.specs.declared.text_line.TextLine.{TextLine}
-use Rattle.niss_text.specs.Lines.{IsLine, IsUnbroken, IsEnd, Covers, Counts, Takes, AreNumbered, end_size}
-use Rattle.niss_text.proofs.LineLemmas.{covers_next, counts_next, takes_next, numbered_next, same_behind_line}
+use Rattle.niss_text.specs.Lines.{IsLine, IsUnbroken, IsEnd, Covers, Counts, Takes, AreNumbered, Begins, BeginNumbered, end_size}
+use Rattle.niss_text.proofs.LineLemmas.{covers_next, counts_next, takes_next, numbered_next, one_more, same_behind_line}
 use Rattle.niss_text.proofs.attempts.put_attempt.Goals as goal
 
 pub loop-at-preserved : goal.loop-at-preserved
@@ -46,5 +46,17 @@ loop-at-preserved c =
           (numbered_next lines count c.args.attempt.now.number c.loop-at.at told (omega (arith, room, same))
           (λ here. inv.first begun here (omega (arith, room, same))) (λ later. inv.numbers begun later (omega (arith, room, same)))
           (c.judged-told.ensures.attempt ∙ c.told_line-told.ensures.attempt ∙ c.role_of-role.ensures));
+      begins = λ begun first.
+          subst (λ (ls : List TextLine). Begins text (take (count + 1) ls)) (sym e)
+          (one_more (λ ls. Begins text ls) lines count told (inv.begins begun first) (λ lt. (now + whole,
+          covers_next text lines count now size whole told lt (inv.covers (begun (omega (arith, lt, inv.more, c.loop-at.auto.lines))) (omega (arith, lt)))
+          begins c.judged-told.ensures.doubt (c.judged-told.ensures.ends ∙ c.told_line-told.ensures.ends) unbroken all)));
+      in_order = λ begun first.
+          subst (λ (ls : List TextLine). BeginNumbered (take (count + 1) ls)) (sym e)
+          (one_more (λ ls. BeginNumbered ls) lines count told (inv.in_order begun first) (λ lt.
+          let fits = begun (omega (arith, lt, inv.more, c.loop-at.auto.lines)) in
+          (c.args.attempt.now.number + 1, numbered_next lines count c.args.attempt.now.number c.loop-at.at told lt
+          (λ here. inv.first fits here (omega (arith, lt))) (λ later. inv.numbers fits later (omega (arith, lt)))
+          (c.judged-told.ensures.attempt ∙ c.told_line-told.ensures.attempt ∙ c.role_of-role.ensures))));
       behind = ap (λ v. drop (count + 1) v) e ∙ same_behind_line lines c.args.lines.now count told inv.behind;
     }

@@ -1,5 +1,5 @@
 use Rattle.std.proofs.Common.{◌≡◌, ◌+◌, ◌-◌, ◌<◌, ◌≤◌, length, take, drop}
-use Rattle.niss_text.specs.Lines.{Covers, Counts, Takes, AreNumbered}
+use Rattle.niss_text.specs.Lines.{Covers, Counts, Takes, AreNumbered, Begins, BeginNumbered}
 use Rattle.niss_text.proofs.attempts.put_attempt.Given as goal
 
 abbrev pub invariant-loop-at : goal.invariant-loop-at
@@ -14,6 +14,10 @@ invariant-loop-at l = record {
       AreNumbered 0 (take l.count l.lines) l.attempt.number;
   numbers : AreNumbered 0 (take l.written l.initial.lines) l.attempt.number → 0 < l.at → l.count ≤ length l.lines →
       AreNumbered 0 (take l.count l.lines) (l.attempt.number + 1);
+  begins : (l.written ≤ length l.initial.lines → Covers l.text 0 (take l.written l.initial.lines) l.begin) → Begins l.text (take l.written l.initial.lines) →
+      Begins l.text (take l.count l.lines);
+  in_order : (l.written ≤ length l.initial.lines → AreNumbered 0 (take l.written l.initial.lines) l.attempt.number) →
+      BeginNumbered (take l.written l.initial.lines) → BeginNumbered (take l.count l.lines);
   behind : drop l.count l.lines ≡ drop l.count l.initial.lines;
 }
 

@@ -26,5 +26,11 @@ loop-at-preserved c =
           subst (λ (n : ℕ). AreNumbered 0 (take c.put_attempt-more.result.0 c.put_attempt-more.new.lines) n) one
           (told.numbers (subst (λ (n : ℕ). AreNumbered 0 (take c.loop-at.count c.loop-at.lines) n) (sym own)
           (inv.numbers begun low (omega (arith, room, same, told.more.0)))) room);
+      begins = λ begun first. told.begins
+          (λ fits. inv.covers (begun (omega (arith, fits, inv.more, c.loop-at.auto.lines))) fits) (inv.begins begun first);
+      in_order = λ begun low first.
+          let own : c.first_attempt-attempt.result.number ≡ c.loop-at.attempts = c.first_attempt-attempt.ensures.number in
+          told.in_order (λ fits. subst (λ (n : ℕ). AreNumbered 0 (take c.loop-at.count c.loop-at.lines) n) (sym own)
+          (inv.numbers (begun (omega (arith, fits, inv.more, c.loop-at.auto.lines))) low fits)) (inv.in_order begun low first);
       behind = told.behind ∙ more_behind c.loop-at.lines c.args.lines.now c.loop-at.count c.put_attempt-more.result.0 told.more.0 inv.behind;
     }

@@ -1,5 +1,5 @@
 use Rattle.std.proofs.Common.{◌≡◌, ◌-◌, ◌≤◌, length, take, drop}
-use Rattle.niss_text.specs.Lines.{Covers, Counts, Takes, AreNumbered}
+use Rattle.niss_text.specs.Lines.{Covers, Counts, Takes, AreNumbered, Begins, BeginNumbered}
 use Rattle.niss_text.proofs.attempts.put_attempts.Given as goal
 
 abbrev pub invariant-loop-at : goal.invariant-loop-at
@@ -15,6 +15,10 @@ invariant-loop-at l = record {
   numbered : l.fn.so_far.attempts ≤ l.fn.so_far.at → l.attempts ≤ l.at;
   numbers : AreNumbered 0 (take l.fn.so_far.lines l.initial.lines) l.fn.so_far.attempts → l.fn.so_far.attempts ≤ l.fn.so_far.at → l.count ≤ length l.lines →
       AreNumbered 0 (take l.count l.lines) l.attempts;
+  begins : (l.fn.so_far.lines ≤ length l.initial.lines → Covers l.text 0 (take l.fn.so_far.lines l.initial.lines) l.fn.so_far.at) →
+      Begins l.text (take l.fn.so_far.lines l.initial.lines) → Begins l.text (take l.count l.lines);
+  in_order : (l.fn.so_far.lines ≤ length l.initial.lines → AreNumbered 0 (take l.fn.so_far.lines l.initial.lines) l.fn.so_far.attempts) →
+      l.fn.so_far.attempts ≤ l.fn.so_far.at → BeginNumbered (take l.fn.so_far.lines l.initial.lines) → BeginNumbered (take l.count l.lines);
   behind : drop l.count l.lines ≡ drop l.count l.initial.lines;
 }
 

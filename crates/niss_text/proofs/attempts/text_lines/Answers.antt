@@ -38,3 +38,22 @@ returns-clause-numbers c = λ room.
     let begun : AreNumbered 0 (take c.nothing.result.lines lines) c.nothing.result.attempts =
     subst (λ (n : ℕ). AreNumbered 0 (take n lines) c.nothing.result.attempts) none (subst (λ (n : ℕ). AreNumbered 0 (take 0 lines) n) begin numbered_none) in
     told.numbers begun (omega (arith, begin)) (omega (arith, room, same))
+
+pub returns-clause-begins : goal.returns-clause-begins
+returns-clause-begins c =
+    let text : List ℕ = c.args.text.now in
+    let lines : List TextLine = c.args.lines.now in
+    let none : 0 ≡ c.nothing.result.lines = sym c.nothing.ensures.1.0 in
+    let begin : 0 ≡ c.nothing.result.at = sym c.nothing.ensures.0 in
+    let begun : Covers text 0 (take c.nothing.result.lines lines) c.nothing.result.at =
+    subst (λ (n : ℕ). Covers text 0 (take n lines) c.nothing.result.at) none (subst (λ (n : ℕ). Covers text 0 (take 0 lines) n) begin (covers_none text 0)) in
+    c.put_attempts-read.ensures.begins (λ fits. begun) (c.nothing.result.at, begun)
+
+pub returns-clause-in_order : goal.returns-clause-in_order
+returns-clause-in_order c =
+    let lines : List TextLine = c.args.lines.now in
+    let none : 0 ≡ c.nothing.result.lines = sym c.nothing.ensures.1.0 in
+    let begin : 0 ≡ c.nothing.result.attempts = sym c.nothing.ensures.1.1 in
+    let begun : AreNumbered 0 (take c.nothing.result.lines lines) c.nothing.result.attempts =
+    subst (λ (n : ℕ). AreNumbered 0 (take n lines) c.nothing.result.attempts) none (subst (λ (n : ℕ). AreNumbered 0 (take 0 lines) n) begin numbered_none) in
+    c.put_attempts-read.ensures.in_order (λ fits. begun) (omega (arith, begin)) (c.nothing.result.attempts, begun)
