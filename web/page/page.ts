@@ -101,7 +101,7 @@ export class Page {
       i: onLine(() => this.#line.turn("inverse")),
       u: onLine(() => this.#line.undoStep()),
       s: onLine(() => star(() => this.#starLine())),
-      "/": () => (this.#state.list && !part("results").inert ? this.#list.focusFilter() : this.#scramble.focus()),
+      "/": () => (this.#state.list && !part("results").inert ? part("filter").focus() : this.#scramble.focus()),
       Escape: () => this.#state.list && this.#changeList(null),
     });
   }
