@@ -259,12 +259,12 @@ D // (1)
 
 F' // EO F/B (1)
 R2 U // DR U/D (2/3)
-// DR U/D 4c2e: 2 normal, 3 inverse, 3 with the line
+// DR U/D 4c2e: 2 normal, 3 inverse
 
 #scramble=R_U_F&kept=normal.D~inverse.L;a_note,inverse.B,normal.F-;;drud-eofb
 """
     same = {"F'": "", "(B)": "", "D (L)": "a note"}
-    of_next = "with the line\n"
+    of_next = ", 3 inverse\n"
     for what, old, new, scramble, kept in (
         ("nothing", "", "", "R U F", same),
         ("the note", "a note", "R2 // another", "R U F", same | {"D (L)": "R2 // another"}),

@@ -59,15 +59,14 @@ export class ScrambleField {
     this.#field.addEventListener("paste", (event) => {
       const { value, selectionStart, selectionEnd } = this.#field;
       const pasted = event.clipboardData?.getData("text").replace(/\r\n?/g, "\n") ?? "";
-      // what a page copied is taken as a whole, wherever it is pasted
-      if (sheetsIn(pasted).length > 0) {
-        event.preventDefault();
-        this.#isCut = false;
-        return this.#read(pasted, true, true);
-      }
-      this.#isReplaced = selectionStart === 0 && selectionEnd === value.length;
+      const isCopy = sheetsIn(pasted).length > 0;
+      this.#isReplaced = !isCopy && selectionStart === 0 && selectionEnd === value.length;
       // the browser takes as much of it as the field has room for, without a word
-      this.#isCut = value.length - (selectionEnd - selectionStart) + pasted.length > LONGEST_SCRAMBLE;
+      this.#isCut = !isCopy && value.length - (selectionEnd - selectionStart) + pasted.length > LONGEST_SCRAMBLE;
+      // what a page copied is taken as a whole, wherever it is pasted
+      if (!isCopy) return;
+      event.preventDefault();
+      this.#read(pasted, true, true);
     });
     this.#field.addEventListener("beforeinput", ({ inputType }) => {
       const { value, selectionStart, selectionEnd } = this.#field;

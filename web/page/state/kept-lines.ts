@@ -9,7 +9,7 @@ export const nameOf = ({ parts, next }: Pick<Candidate, "parts" | "next">) => [b
 const inOne = (parts: Part[]) => parts.map((each) => bracketed([each])).join(" ");
 
 /** A note without what the page writes before it, of the reduction that a line was kept with. */
-const ownNote = (note: string) => note.replace(/^DR \S+ \S+: .*? with the line */, "");
+const ownNote = (note: string) => note.replace(/^DR \S+ \S+: \S+ normal, \S+ inverse(, \d+ over both)? */, "");
 
 /** Whether a line says what is kept: one that was kept with a reduction goes on with the first of it. */
 function isSaid({ parts, next }: Candidate, line: string, note: string) {
