@@ -1,11 +1,13 @@
-"""Filters that stay for the next scramble are seen when they are folded, can be cleared at once, and say so where they leave nothing."""
+"""Filters that stay for the next scramble are seen when they are folded, can be cleared at once, and how many rows they leave is said."""
 import re
 
 from best import LONGER, SCRAMBLE, TYPE, address_of
 from browser import Browser
+from passage import EO, cases_of, trigger_of
 from tally import Tally
+from wanted import Position
 
-SIGNS = """return ['on', 'clear', 'none'].map((each) => document.getElementById(`${arguments[0]}-${each}`))
+SIGNS = """return ['on', 'clear'].map((each) => document.getElementById(`${arguments[0]}-${each}`))
     .map((each) => each.checkVisibility() ? each.textContent : '')"""
 CLEAR = "Clear filters"
 
@@ -19,22 +21,23 @@ def of_the_best(tally: Tally, browser: Browser) -> None:
         "return ['best-axis', 'best-side', 'best-next'].map((name) => document.getElementById(name).options[0].text)"
     )
     tally.equal("what leaves any is called so", every, ["any"] * 3)
-    tally.equal("without a filter nothing is said", browser.script(SIGNS, "best"), ["", "", ""])
+    tally.equal("without a filter nothing is said", browser.script(SIGNS, "best"), ["", ""])
     browser.choose("best-axis", "EO F/B")
     browser.choose("best-side", "inverse")
     left = browser.texts("#best-body tr")
-    tally.equal("two are on", browser.script(SIGNS, "best"), ["2 on", CLEAR, ""])
+    tally.equal("two are on", browser.script(SIGNS, "best"), ["2 on", CLEAR])
     tally.holds("and leave less", left != first)
     browser.fill("scramble", SCRAMBLE)
     browser.wait_best()
     tally.holds("they are folded", not browser.script("return document.getElementById('best-options').open"))
-    tally.equal("for the next scramble too", browser.script(SIGNS, "best")[:2], ["2 on", CLEAR])
+    tally.equal("for the next scramble too", browser.script(SIGNS, "best"), ["2 on", CLEAR])
     # none goes on to the axis that its EO has
     browser.choose("best-next", "DR F/B")
     tally.equal("nothing is left", browser.texts("#best-body tr"), [])
-    tally.equal("which is said", browser.script(SIGNS, "best"), ["3 on", CLEAR, "No row is left by the filters below."])
+    tally.equal("three are on", browser.script(SIGNS, "best"), ["3 on", CLEAR])
+    tally.holds("which is said", browser.text("best-note").startswith("0 of "))
     browser.click("#best-clear")
-    tally.equal("they are cleared", browser.script(SIGNS, "best"), ["", "", ""])
+    tally.equal("they are cleared", browser.script(SIGNS, "best"), ["", ""])
     tally.holds("and all are there", browser.texts("#best-body tr"))
     tally.equal(
         "the focus is at the fold",
@@ -74,17 +77,43 @@ def of_many(tally: Tally, browser: Browser) -> None:
 def of_a_list(tally: Tally, browser: Browser) -> None:
     """Those of a list."""
     browser.open(address_of(LONGER) + "&list=eorl.normal.0")
-    tally.equal("without a filter nothing is said", browser.script(SIGNS, "list"), ["", "", ""])
+    tally.equal("without a filter nothing is said", browser.script(SIGNS, "list"), ["", ""])
     count = len(browser.listed())
     browser.script(TYPE, "", "U U")
-    said = ["1 on", CLEAR, "No row is left by the filters above."]
-    tally.equal("nothing is left", (browser.listed(), browser.script(SIGNS, "list")), ([], said))
+    tally.equal("nothing is left", (browser.listed(), browser.script(SIGNS, "list")), ([], ["1 on", CLEAR]))
+    tally.holds("which is said", "0 rows match." in browser.text("solutions-note"))
     browser.click("#list-clear")
-    tally.equal("they are cleared", (len(browser.listed()), browser.script(SIGNS, "list")), (count, ["", "", ""]))
+    tally.equal("they are cleared", (len(browser.listed()), browser.script(SIGNS, "list")), (count, ["", ""]))
     browser.click("#list-cases-chips button")
     tally.equal("a case", browser.script(SIGNS, "list")[0], "1 on")
     browser.act('[data-cell="eofb.normal"]')
-    tally.equal("another list has none", browser.script(SIGNS, "list"), ["", "", ""])
+    tally.equal("another list has none", browser.script(SIGNS, "list"), ["", ""])
+
+
+def of_one(tally: Tally, browser: Browser) -> None:
+    """A case that all rows have is no choice, and isn't offered, but keeps its place; moves may be typed in each list, which no fold hides."""
+    after = f"{address_of(LONGER)}&steps=inverse.B_D_R_F2_B_D"
+    for width in (1280, 360, 320):
+        browser.resize(width, 740)
+        tops = []
+        for step, side, is_choice in (
+            ("drrl-eoud", "inverse", False),
+            ("drrl-eoud", "normal", True),
+            ("drfb-eoud", "normal", False),
+        ):
+            rows = Position(LONGER, "", EO).rows(step, side)
+            lines = [row if side == "normal" else f"({row})" for row in rows]
+            triggers = {trigger_of(cases_of(LONGER, EO, step[2:4], line)) for line in lines}
+            tally.equal(f"{step} {side}: whether there are several triggers", len(triggers) > 1, is_choice)
+            browser.open(f"{after}&list={step}.{side}.0")
+            offered = "return getComputedStyle(part('list-filters')).visibility === 'visible'"
+            tally.equal(f"{width}: {step} {side}: whether these are offered", browser.script(offered), is_choice)
+            tally.holds(f"{width}: {step} {side}: moves may be typed", browser.look("filter?"))
+            tops.append(browser.script("return part('solutions-note').offsetTop - part('solutions').offsetTop"))
+        tally.equal(f"{width}: where the rows begin: {tops}", len(set(tops)), 1)
+    browser.script(TYPE, "", "U U")
+    browser.walk(tally, "one that is typed is cleared", ("click", "#list-clear", {"focus": "filter", "filter=": ""}))
+    browser.resize()
 
 
 def of_both_sides(tally: Tally, browser: Browser) -> None:

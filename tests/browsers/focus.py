@@ -226,9 +226,6 @@ def words(tally: Tally, browser: Browser) -> None:
     """What the tables and the fields are called."""
     browser.go(ADDRESS)
     browser.wait_best()
-    ground = "return ['#steps .head .least', 'td .least'].map((each) => getComputedStyle(document.querySelector(each)).backgroundColor)"
-    tally.equal("the word for the shortest cells", browser.texts("#steps .head .least"), ["shortest"])
-    tally.equal("it has their colour", len(set(browser.script(ground))), 1)
     heads = ["In all", "Moves", "Reaches", "Then DR", "Normal moves", "Inverse moves"]
     tally.equal("the columns of the best", browser.texts("#best-table thead th")[:6], heads)
     sides = "return all('#best-body tr:first-child .number').map((each) => [each.title, each.ariaLabel])"
@@ -244,16 +241,37 @@ def words(tally: Tally, browser: Browser) -> None:
     tally.equal("what the lengths of a row are", said, wanted)
 
 
+# what is said of steps that give up what is reached, and whether the first step is seen
+ANEW = "return seen('#steps-body .anew, #steps-anew').map((each) => each.textContent)"
+OPEN = "return document.querySelector('#steps-body .cell').checkVisibility()"
+
+
 def goes_on(tally: Tally, browser: Browser) -> None:
-    """Shortest is said of steps that keep what is reached alone; the others are said to begin anew."""
-    least = """return [[...new Set(all('#steps-body .least').map((each) => each.dataset.cell.slice(0, 2)))],
-        document.querySelector('#steps .head .least').checkVisibility()]"""
+    """The shortest are marked of steps that keep what is reached alone; the others are said to begin anew. After a DR, which all of them give up, they are folded,
+    until a list of one is open; the fold stays as it is while the line is gone on with."""
+    least = "return [...new Set(all('#steps-body .least').map((each) => each.dataset.cell.slice(0, 2)))]"
     ways: tuple[tuple[str, list[str], list[str]], ...] = (
         ("", ["eo"], []),
         ("&steps=normal.D2_R2_L_U", ["dr"], ["Going on from here, this EO given up"]),
         ("&steps=normal.D2_R2_L_U~normal.B_R_D2_B_R_B_R_B", [], ["Going on from here, this DR given up"]),
     )
     for steps, kinds, said in ways:
-        browser.walk(
-            tally, "goes on", ("go", ADDRESS + steps, {least: [kinds, kinds != []], "#steps-body .anew": said})
-        )
+        looks = {least: kinds, ANEW: said, OPEN: kinds != []}
+        browser.walk(tally, "goes on", ("go", ADDRESS + steps, looks))
+    dr, cell = ADDRESS + ways[2][0], browser.script("return document.querySelector('#steps-body .cell').dataset.cell")
+    browser.walk(
+        tally,
+        "after a DR",
+        ("press", "1", {"solutions?": True, OPEN: True}),
+        ("press", Keys.ESCAPE, {"solutions?": False, OPEN: True}),
+        ("click", "#steps-anew", {OPEN: False}),
+        ("submit", "own", "R2", {}),
+        ("comes", "steps", 3, {OPEN: False}),
+        ("click", "#steps-anew", {OPEN: True}),
+        ("script", "part('own').value = 'U2'; part('own').form.requestSubmit()", {}),
+        ("comes", "steps", 4, {OPEN: True}),
+        ("go", ADDRESS + ways[1][0], {OPEN: True}),
+        ("go", dr, {OPEN: False}),
+        ("follow", f"{dr}&list={cell}.0", {OPEN: True}),
+        ("act", "#solutions-close", {"focus": cell, OPEN: True}),
+    )

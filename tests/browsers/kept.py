@@ -129,11 +129,11 @@ def copies_kept(tally: Tally, browser: Browser) -> None:
 
 
 def lengths_of(row: list[str], first: str) -> str:
-    """The lengths of a row's reduction on each side alone, over both if its first one is, and of all moves."""
+    """The lengths of a row's reduction on each side alone, and over both if its first one is."""
     *_, normal, inverse = row
     moves = first.removeprefix("then ")
-    both = f" {len(moves.split())} over both," if "(" in moves and not moves.startswith("(") else ""
-    return f"{normal} normal, {inverse} inverse,{both} {row[0]} with the line"
+    both = f", {len(moves.split())} over both" if "(" in moves and not moves.startswith("(") else ""
+    return f"{normal} normal, {inverse} inverse{both}"
 
 
 def keeps_reductions(tally: Tally, browser: Browser) -> None:
@@ -173,8 +173,8 @@ def keeps_reductions(tally: Tally, browser: Browser) -> None:
     browser.until(KEPT_SAID)
     both = [at in (one, other) for at in range(len(rows))]
     tally.equal("the other row of this orientation is kept by itself", browser.script(stars), both)
-    totals = re.findall(r"(\d+) with the line", " ".join(browser.texts("#kept-list .case")))
-    tally.equal("they are sorted by all moves", totals, [rows[one][0], rows[other][0]])
+    totals = [each.split()[0] for each in browser.texts("#kept-list .total")]
+    tally.equal("they are sorted by all moves, which are told", totals[:2], [rows[one][0], rows[other][0]])
     names = browser.script("return [...document.querySelectorAll('#kept-list button')].map((each) => each.ariaLabel)")
     tally.equal("no two buttons have one name", len(set(names)), len(names))
     count = len(first.split()) - 1

@@ -13,6 +13,9 @@ PASTE_ALL = """const field = part('scramble'), clipboardData = new DataTransfer(
 NOTE = """const field = document.querySelector('.note-field');
     field.value = arguments[0];
     field.dispatchEvent(new Event('change'))"""
+# the moves of what is kept, with their notes
+LINES = """return all('#kept-list li').map((each) => [
+    [...each.querySelectorAll('.step > .step .moves')].map((one) => one.textContent).join(' '), each.querySelector('.note-field').value])"""
 NO_CLIPBOARD = (
     "Object.defineProperty(navigator, 'clipboard', { value: { writeText: async (text) => { window.copied = text } } })"
 )
@@ -242,7 +245,10 @@ def copies(tally: Tally, browser: Browser) -> None:
 
 
 def reads_edits(tally: Tally, browser: Browser) -> None:
-    """Of kept lines that were copied and edited the lines count, and not the address below them; the address does if they say the same."""
+    """
+    Of kept lines that were copied and edited the lines and their notes count, and not the address below them: those that say what was kept stay that, with
+    the reduction that they were kept with. The address counts if they all say the same.
+    """
     copied = """R U F
 
 (B) // (1)
@@ -253,25 +259,38 @@ D // (1)
 
 F' // EO F/B (1)
 R2 U // DR U/D (2/3)
-// DR U/D 4c2e: 2 normal, 3 inverse, 3 with the line
+// DR U/D 4c2e: 2 normal, 3 inverse
 
 #scramble=R_U_F&kept=normal.D~inverse.L;a_note,inverse.B,normal.F-;;drud-eofb
 """
-    same = ["F'", "(B)", "D (L)"]
+    same = {"F'": "", "(B)": "", "D (L)": "a note"}
+    of_next = ", 3 inverse\n"
     for what, old, new, scramble, kept in (
         ("nothing", "", "", "R U F", same),
-        ("the note", "a note", "R2 // another", "R U F", same),
-        ("moves", "(B) //", "(B' D) //", "R U F", ["F' R2 U", "D (L)", "(B' D)"]),
-        ("moves at the end", "(L) //", "(L) R //", "R U F", ["F' R2 U", "(B)", "D R (L)"]),
-        ("a line that is gone", "D // (1)\n(L) // (1/2)\n// a note\n\n", "", "R U F", ["F' R2 U", "(B)"]),
-        ("a line more", "(B) // (1)\n\n", "(B)\n\nL2\n\n", "R U F", ["F' R2 U", "(B)", "L2", "D (L)"]),
-        ("the scramble", "R U F\n\n", "R U F2\n\n", "R U F2", ["(B)", "D (L)", "F' R2 U"]),
+        ("the note", "a note", "R2 // another", "R U F", same | {"D (L)": "R2 // another"}),
+        ("a note that is gone", "// a note\n", "", "R U F", same | {"D (L)": ""}),
+        ("a note more", "(B) // (1)\n", "(B) // (1)\n// short\n", "R U F", same | {"(B)": "short"}),
+        ("the note of a reduction", of_next, of_next + "// better\n", "R U F", same | {"F'": "better"}),
+        ("moves", "(B) //", "(B' D) //", "R U F", {"F'": "", "D (L)": "a note", "(B' D)": ""}),
+        ("moves at the end", "(L) //", "(L) R //", "R U F", {"F'": "", "(B)": "", "D R (L)": "a note"}),
+        ("a line that is gone", "D // (1)\n(L) // (1/2)\n// a note\n\n", "", "R U F", {"F'": "", "(B)": ""}),
+        ("a line more", "(B) // (1)\n\n", "(B)\n\nL2\n\n", "R U F", same | {"L2": ""}),
+        ("the scramble", "R U F\n\n", "R U F2\n\n", "R U F2", {"F' R2 U": "", "(B)": "", "D (L)": "a note"}),
     ):
         browser.open()
         browser.script(PASTE, copied.replace(old, new) if old else copied)
         tally.holds(f"{what} is edited: as many lines", browser.comes("kept", len(kept)))
-        found = sorted(browser.look(KEPT)), browser.value("scramble"), browser.text("scramble-read")
-        tally.equal(f"{what} is edited: lines, scramble, what is left out", found, (sorted(kept), scramble, ""))
+        found = dict(browser.script(LINES)), browser.value("scramble"), browser.text("scramble-read")
+        tally.equal(f"{what} is edited: lines, scramble, what is left out", found, (kept, scramble, ""))
+        tally.equal(f"{what} is edited: the reduction stays", "drud-eofb" in browser.hash(), "F'" in kept)
+    long = copied.replace("a note", "another") + "\n" * 4096
+    browser.walk(
+        tally,
+        "pasted where they were copied",
+        ("open", copied.splitlines()[-1], {}),
+        ("script", PASTE_ALL, long, {}),
+        ("comes", LINES, [[line, same[line] and "another"] for line in ("F'", "(B)", "D (L)")], {"scramble=": "R U F"}),
+    )
 
 
 def says_what_is_refused(tally: Tally, browser: Browser) -> None:

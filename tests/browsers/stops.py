@@ -30,7 +30,6 @@ def shows_focus(tally: Tally, browser: Browser) -> None:
     browser.resize(360, 800)
     browser.open(ADDRESS)
     browser.wait_best()
-    browser.script("part('list-filters').open = true")
     outline = """const own = getComputedStyle(document.activeElement);
         return [document.activeElement === document.body, own.outlineStyle === 'solid' && parseFloat(own.outlineWidth) >= 2]"""
     stops, unseen = [], []

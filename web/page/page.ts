@@ -10,7 +10,7 @@ import { NextFocus, type Where } from "./state/next-focus.js";
 import { DeskStrip, type Keeping } from "./cards/scrambles-on-desk.js";
 import { KeptCandidates } from "./cards/kept.js";
 import { LineSoFar } from "./cards/line.js";
-import { withOthers } from "./state/kept-lines.js";
+import { asCopied, withOthers } from "./state/kept-lines.js";
 import { Seen, WayBack, dropAddress, keepPlace, placeIn } from "./state/history.js";
 import { refreshRows, type StarActs } from "./shared/rows.js";
 import { ScrambleField, type ScrambleChange } from "./cards/scramble.js";
@@ -101,7 +101,7 @@ export class Page {
       i: onLine(() => this.#line.turn("inverse")),
       u: onLine(() => this.#line.undoStep()),
       s: onLine(() => star(() => this.#starLine())),
-      "/": () => (this.#state.list && !part("results").inert ? this.#list.focusFilter() : this.#scramble.focus()),
+      "/": () => (this.#state.list && !part("results").inert ? part("filter").focus() : this.#scramble.focus()),
       Escape: () => this.#state.list && this.#changeList(null),
     });
   }
@@ -186,7 +186,7 @@ export class Page {
     try {
       const { unread, parts, kept, doubt, doubted, undoing } = await this.#byHand.ask("readWritten", fmc);
       if (turn !== this.#turn) return;
-      const joined = withOthers(this.#state.kept, kept);
+      const joined = withOthers(this.#state.kept, asCopied(kept, fmc.copied ?? []));
       this.#change({ ...(parts.length > 0 && { parts }), kept: joined.kept }, { isStep: !isNew });
       tell(part("alert"), whyUnread(unread) || joined.why);
       // once, where it can be mended

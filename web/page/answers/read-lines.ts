@@ -1,7 +1,7 @@
 // How lines are read, by the engine at hand: as it writes them, and by face turns alone if they turn the whole cube.
 // Such turns, which it puts at the end, are left out, so that each letter names one face in all that follows.
 import { NissyFault, type FaultParts } from "../../module/shared/faults.js";
-import { LONGEST_NOTE, MOST_MOVES } from "../state/limits.js";
+import { MOST_MOVES } from "../state/limits.js";
 import { SIDES, bracketed, joined, type Part, type Side } from "../shared/offered-steps.js";
 import type { Candidate } from "../state/address.js";
 import type { Nissy } from "../../module/nissy.js";
@@ -66,8 +66,8 @@ function readAllByHand(nissy: Nissy, steps: PlainLine[]): { parts: Part[]; begin
   return { parts, begins, unread: null };
 }
 
-/** A text as solvers write it, and which of its attempts is meant. */
-export type Written = { text: string; at: number };
+/** A text as solvers write it, and which of its attempts is meant; `copied`: what it was a copy of, before edits. */
+export type Written = { text: string; at: number; copied?: Candidate[] };
 
 /** The steps and the candidates of an attempt, the first line of it that can't be read, if any, what makes one doubt
  * how it was read, which step is in doubt, or -1, and what undoes that on the normal side. */
@@ -80,7 +80,7 @@ export function readWritten(nissy: Nissy, { text, at }: Written) {
   const kept = read.filter((each) => each.parts.length > 0);
   return {
     parts,
-    kept: kept.map((each) => ({ parts: each.parts, note: each.note.slice(0, LONGEST_NOTE), next: "" })),
+    kept: kept.map((each) => ({ parts: each.parts, note: each.note, next: "" })),
     unread: [unread, ...read.map((each) => each.unread)].find((each) => each !== null) ?? null,
     doubt,
     doubted,

@@ -307,7 +307,7 @@ export class BestContinuations {
   #draw() {
     const rows = this.#rows(this.#progress);
     const { isWhole = false, rows: all = [], count = 0, tried = 0 } = this.#progress ?? {};
-    this.#filters.show(rows.length === 0 && isWhole && all.length > 0);
+    this.#filters.show();
     if (part("best-options").open) offerCases("best-cases", all.map(casesOfBest));
     const ofWhat = this.#isOfReductions ? "Trigger from" : "Case before DR";
     const some = isWhole && count < tried ? `, of the best ${count.toLocaleString("en")}` : "";

@@ -34,13 +34,14 @@ export function ofCases<Row>(field: string, casesOf: (row: Row) => string[]): Ki
   return { field, test };
 }
 
-/** Offers cases as chips, each with how many rows have it, the nearest first; those that are pressed stay. */
+/** Offers cases as chips if they are several, each with how many rows have it, the nearest first; pressed ones stay. */
 export function offerCases(name: string, all: string[][]) {
   const [field, chips] = [part(name), part(`${name}-chips`)];
   const pressed = pressedIn(field.value);
   const counts = new Map(pressed.map((each) => [each, 0]));
   for (const each of all.flatMap((cases) => [...new Set(cases)])) counts.set(each, (counts.get(each) ?? 0) + 1);
   const names = [...counts.keys()].sort((one, other) => farnessOf(one) - farnessOf(other));
+  chips.parentElement?.toggleAttribute("hidden", names.length < 2 && pressed.length === 0);
   const focused = document.activeElement?.closest(`#${chips.id} button`)?.dataset.case;
   chips.replaceChildren(...names.map((each) => {
     const isPressed = pressed.includes(each);
@@ -100,7 +101,7 @@ export const filtersOfBest = () => [
   chosen<Row>("best-next", reducedAfter(namesOf(ORIENTATIONS)), ({ next }, marks) => next?.marks === marks),
 ];
 
-/** The filters of a card, which says how many of them are on, and if they leave nothing; a button clears them. */
+/** The filters of a card, which says how many of them are on; a button clears them. */
 export class Filters<Row> {
   /** @param changed says whether there are rows that may be left */
   constructor(private readonly name: string, note: HTMLElement, public kinds: Kind<Row>[], changed: () => boolean) {
@@ -111,7 +112,7 @@ export class Filters<Row> {
     }
     part(`${name}-clear`).addEventListener("click", () => {
       // what is hidden can't keep the focus
-      part(`${name}-on`).closest("summary")?.focus({ preventScroll: true });
+      (part(`${name}-on`).closest("summary") ?? this.#fields()[0]).focus({ preventScroll: true });
       this.clear();
       if (changed()) announce(note.textContent);
     });
@@ -133,12 +134,11 @@ export class Filters<Row> {
     return this.#fields().filter(({ value }) => value.trim() !== "").length;
   }
 
-  /** Says how many these are. @param isEmpty whether they leave nothing of something */
-  show(isEmpty: boolean) {
+  /** Says how many these are. */
+  show() {
     const { count, name } = this;
     tell(part(`${name}-on`), count === 0 ? "" : `${count} on`);
     part(`${name}-clear`).hidden = count === 0;
-    part(`${name}-none`).hidden = count === 0 || !isEmpty;
   }
 
   #fields() {

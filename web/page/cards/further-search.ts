@@ -1,6 +1,5 @@
-// Longer orientations, which nobody asked for: one move longer, and then two. They are looked for while the page is
-// seen and waits for nothing else, by workers that leave half of the processor to whatever is asked meanwhile, as long
-// as a measure allows them, and after that once they are asked for.
+// Longer orientations, one move and then two, which nobody asked for. They are looked for while the page is seen and
+// waits for nothing else, as long as a measure allows them, and after that once they are asked for.
 import { present, thrownError } from "../shared/certain.js";
 import { findOnAxis, together, type Found, type FoundOnAxis, type Question } from "./finder.js";
 import { Measure, isSmall, mostTogether } from "./measure.js";

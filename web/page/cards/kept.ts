@@ -33,14 +33,14 @@ const totalOf = ({ totals, next }: KeptWalk) => next?.total ?? lastOf(totals);
 /** What candidates are put in order by: how far they have come, and then all moves, which are fewer than that many. */
 const rankOfKept = (walk: KeptWalk | null) => (walk === null ? 0 : totalOf(walk) - 2 * MOST_MOVES * stageOf(walk));
 
-/** The reduction that a candidate was kept with, `DR F/B 6c4e: 4 normal, 7 inverse, 9 with the line`, and the first. */
+/** The reduction that a candidate was kept with, such as `DR F/B 6c4e: 4 normal, 7 inverse`, and the first. */
 function wordsOfNext({ next }: KeptWalk): string[] {
   if (next === null) return [];
-  const { dr, case: name, total } = next;
+  const { dr, case: name } = next;
   const alone = SIDES.map((side) => `${dr.lengths[side] ?? "–"} ${side}`);
   const both = sidesOf(dr) === "both" ? [`${dr.length} over both`] : [];
-  const words = [...alone, ...both, `${total} with the line`].join(", ");
-  return [`${stateOf(stepNamed(dr.step))} ${name}: ${words}`, ...(dr.moves === "" ? [] : [`then ${dr.moves}`])];
+  const words = `${stateOf(stepNamed(dr.step))} ${name}: ${[...alone, ...both].join(", ")}`;
+  return [words, ...(dr.moves === "" ? [] : [`then ${dr.moves}`])];
 }
 
 /** What follows a line that isn't reduced: the reduction that it was kept with, or the case of each that may follow. */
@@ -58,7 +58,7 @@ function stepOf(parts: Part[], walk: KeptWalk | null) {
     ...(walk === null ? [] : saidToBeReached(walk, at)).map((state) => element("span", { class: "chip" }, state))));
   const cases = walk === null ? [] : casesAfter(walk);
   return element("span", { class: "step" }, ...steps,
-    element("span", { class: "total" }, walk === null ? "" : `${lastOf(walk.totals)} in all`),
+    element("span", { class: "total" }, walk === null ? "" : `${totalOf(walk)} in all`),
     ...cases.map((each) => element("span", { class: "case" }, each)));
 }
 

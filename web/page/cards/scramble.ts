@@ -1,7 +1,7 @@
 // The card of the scramble: its field, what was left out of a text and what is at fault, and its fold.
 import { Stopped } from "../../module/shared/faults.js";
 import { announce, announceLater, counted, part, tell } from "../shared/element.js";
-import { emptyState, type State } from "../state/address.js";
+import { emptyState, type Candidate } from "../state/address.js";
 import { sheetsIn, withoutAddresses, type NewSheet } from "../state/desk.js";
 import { areSaid } from "../state/kept-lines.js";
 import { LONGEST_SCRAMBLE } from "../state/limits.js";
@@ -59,10 +59,14 @@ export class ScrambleField {
     this.#field.addEventListener("paste", (event) => {
       const { value, selectionStart, selectionEnd } = this.#field;
       const pasted = event.clipboardData?.getData("text").replace(/\r\n?/g, "\n") ?? "";
-      if (this.#takeSheets(pasted)) return event.preventDefault();
-      this.#isReplaced = selectionStart === 0 && selectionEnd === value.length;
+      const isCopy = sheetsIn(pasted).length > 0;
+      this.#isReplaced = !isCopy && selectionStart === 0 && selectionEnd === value.length;
       // the browser takes as much of it as the field has room for, without a word
-      this.#isCut = value.length - (selectionEnd - selectionStart) + pasted.length > LONGEST_SCRAMBLE;
+      this.#isCut = !isCopy && value.length - (selectionEnd - selectionStart) + pasted.length > LONGEST_SCRAMBLE;
+      // what a page copied is taken as a whole, wherever it is pasted
+      if (!isCopy) return;
+      event.preventDefault();
+      this.#read(pasted, true, true);
     });
     this.#field.addEventListener("beforeinput", ({ inputType }) => {
       const { value, selectionStart, selectionEnd } = this.#field;
@@ -149,37 +153,34 @@ export class ScrambleField {
     const isReplaced = this.#isReplaced;
     this.#isReplaced = false;
     // what is pasted is whole
-    if (how === "insertFromPaste") return this.#read(isReplaced, true);
+    if (how === "insertFromPaste") return this.#read(this.#field.value, isReplaced, true);
     this.#isCut = false;
-    this.#timer = setTimeout(() => this.#read(false, false), PAUSE);
+    this.#timer = setTimeout(() => this.#read(this.#field.value, false, false), PAUSE);
   }
 
-  /** Whether kept lines that were copied were edited since: then they count, and not the address below them. */
-  #isEdited(text: string, { scramble, kept }: State) {
-    const [copied] = this.reader.attempts(withoutAddresses(text));
-    const lines = copied.candidates.map(({ solution }) => spaced(solution));
-    return lines.length > 0 && !(spaced(copied.scramble) === spaced({ line: scramble }) && areSaid(kept, lines));
+  /** Whether what was kept, and copied, was edited since: then its lines count, and not the address below them. */
+  #isEdited({ candidates }: Attempt, copied: Candidate[]) {
+    const asRead = (note: string) => this.reader.attempts(`R\n\nR\n// ${note}`)[0].candidates[0]?.note ?? note;
+    const before = copied.map((each) => ({ ...each, note: asRead(each.note) }));
+    const lines = candidates.map(({ solution, note }) => ({ line: spaced(solution), note }));
+    return lines.length > 0 && !areSaid(before, lines);
   }
 
-  /** Takes what another page copied, if a text has that. @returns whether it has */
-  #takeSheets(text: string) {
-    const sheets = sheetsIn(text);
-    if (sheets.length === 0 || this.#isEdited(text, sheets[0].state)) return false;
-    this.#field.value = this.#shown;
-    this.acts.take(sheets);
-    return true;
-  }
-
-  #read(isReplaced: boolean, isPasted: boolean) {
-    if (this.#takeSheets(this.#field.value)) return;
-    const text = withoutAddresses(this.#field.value);
+  #read(typed: string, isReplaced: boolean, isPasted: boolean) {
+    const [sheets, text] = [sheetsIn(typed), withoutAddresses(typed)];
+    const attempts = this.reader.attempts(text);
+    const line = spaced(attempts[0].scramble);
+    const copied = sheets.find(({ state }) => spaced({ line: state.scramble }) === line)?.state.kept ?? [];
+    if (sheets.length > 0 && !this.#isEdited(attempts[0], copied)) {
+      this.#field.value = this.#shown;
+      return this.acts.take(sheets);
+    }
     // an empty line more is nothing new
     if (!isPasted && this.#isRead && text.trim() === this.#shown.trim()) return;
-    const attempts = this.reader.attempts(text);
     const plain = this.reader.plainLine(text);
-    const whole = spaced(attempts[0].scramble) === spaced(plain) ? asTyped(plain) : null;
-    const others = attempts.slice(1).map((each, at) => newSheet(each, { text, at: at + 1 }));
-    this.#take({ text, at: 0 }, attempts, { isReplaced, whole, others: isPasted ? others : [] });
+    const whole = line === spaced(plain) ? asTyped(plain) : null;
+    const others = isPasted ? attempts.slice(1).map((each, at) => newSheet(each, { text, at: at + 1 })) : [];
+    this.#take({ text, at: 0, copied }, attempts, { isReplaced, whole, others });
   }
 
   /** Reads a scramble of a text that was pasted with others, as if it alone had been pasted.

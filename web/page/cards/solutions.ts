@@ -7,7 +7,6 @@ import { addRows, roveWithin, showRows, starButton, takeButton, takeNamed, type 
 import { axisName, partOf, reductionsAfter, stateOf, stepNamed, titleOf, type Part } from "../shared/offered-steps.js";
 import { signsOfCases, triggerOf } from "../shared/passage.js";
 import { sidesOfTwins, wordsOfTwins, type Entry } from "../shared/twins.js";
-import { isNarrow } from "../shared/view.js";
 import type { Calls } from "../shared/questions.js";
 import type { Rows } from "../answers/list-rows.js";
 import type { List } from "../state/address.js";
@@ -70,8 +69,6 @@ export class SolutionList {
     part("solutions-close").addEventListener("click", () => acts.change(null));
     part("solutions-more").addEventListener("click", () => this.#more());
     roveWithin(this.#groups);
-    // so that rows are seen below them
-    part("list-filters").open = !isNarrow();
   }
 
   end() {
@@ -107,7 +104,7 @@ export class SolutionList {
     const isSame = list?.step === this.#list?.step && list?.side === this.#list?.side;
     // the filters stay for the same list with other rows, and what is typed while it is looked for stays too
     if (!isSame) this.#filters.clear();
-    this.#filters.show(false);
+    this.#filters.show();
     this.#list = list;
     this.#rows = null;
     this.#shown = MOST_SHOWN;
@@ -135,12 +132,6 @@ export class SolutionList {
     this.#order();
     const all = `${rows.whole ? "" : "more than "}${counted(rows.all, "solution")}`;
     announce(`${nameOfList(present(this.#list))}: ${all}.`);
-  }
-
-  /** Puts the focus on the field of the filter, also where the filters are folded. */
-  focusFilter() {
-    part("list-filters").open = true;
-    part("filter").focus();
   }
 
   focus() {
@@ -219,10 +210,9 @@ export class SolutionList {
       }
     }, part("solutions-heading"));
     const count = this.#shown - room;
-    const rows = present(this.#rows);
-    this.#filters.show(this.#matching.length === 0 && rows.entries.length > 0);
+    this.#filters.show();
     part("solutions-more").hidden = count === this.#matching.length;
-    tell(part("solutions-note"), noteOfList(rows, this.#matching.length, count));
+    tell(part("solutions-note"), noteOfList(present(this.#rows), this.#matching.length, count));
   }
 
   /** Shows more of a group. @param count how many of its rows are shown then */

@@ -1,5 +1,5 @@
 // The table of the steps that may follow: of each what solvers choose it by, and its counts on each side.
-import { counted, element, part, withData } from "../shared/element.js";
+import { counted, element, part, tell, withData } from "../shared/element.js";
 import {
   SIDES, isReduced, nameOfSide, stateOf, statesOf, titleOf, type OfferedStep, type Part, type Side, type Step,
 } from "../shared/offered-steps.js";
@@ -42,6 +42,8 @@ export async function cubeWithOffers(
   return { cube: await cube, offers };
 }
 
+const wordsOfAnew = (state: string) => `Going on from here, this ${state} given up`;
+
 const areReductions = ([{ step }]: Offer[]) => step.needs !== null;
 
 /** Whether some offers keep what is reached: each does where that is nothing, and a reduction keeps its orientation. */
@@ -72,20 +74,23 @@ export class StepTable {
     part("reached").hidden = states.length === 0;
     part("reached").replaceChildren(...(states.length === 0 ? [] : ["Reached: "]), ...states.flatMap((state) =>
       [element("span", { class: "chip", "data-marks": state }, state), " "]));
+    const isOver = isReduced(reached);
+    // what gives a reduction up is folded once
+    if (part("steps-anew").hidden === isOver) part("steps-fold").open = !isOver;
+    tell(part("steps-anew"), isOver ? wordsOfAnew("DR") : "");
   }
 
   /** Shows offers, a reduction before an orientation. */
   show(offers: Offer[], cube: Cube, list: List | null) {
     const groups = [true, false].map((isReduction) => offers.filter((offer) => isReduction === areReductions([offer])))
       .filter((group) => group.length > 0);
-    const { activeElement } = document;
-    const focused = this.#body.contains(activeElement) ? activeElement?.dataset.cell : null;
-    const anew = groups.find((group) => !keepsReached(group, cube.reached));
+    const anew = isReduced(cube.reached) ? null : groups.find((group) => !keepsReached(group, cube.reached));
+    const heading = element("tr", { class: "anew" }, element("td", { colspan: 3, class: "note" }, wordsOfAnew("EO")));
     this.#body.replaceChildren(...groups.flatMap((group) =>
-      [...(group === anew ? [this.#anew(cube)] : []), ...this.#rows(group, cube, list)]));
+      [...(group === anew ? [heading] : []), ...this.#rows(group, cube)]));
+    this.mark(list);
     part("no-reduction").hidden = cube.reached.length > 0;
     part("steps-table").hidden = groups.length === 0;
-    if (focused) this.cell(focused)?.focus({ preventScroll: true });
   }
 
   cell = (name: string) => withData(this.#body, "cell", name);
@@ -114,7 +119,9 @@ export class StepTable {
     places.find(mayHave)?.focus({ preventScroll: true });
   }
 
+  /** Marks the cell of the list that is open, which is seen. */
   mark(list: List | null) {
+    if (list) part("steps-fold").open = true;
     const open = list && `${list.step}.${list.side}`;
     for (const cell of this.#body.querySelectorAll("[data-cell]")) {
       cell.setAttribute("aria-pressed", String(cell.dataset.cell === open));
@@ -132,12 +139,7 @@ export class StepTable {
     if (!cell?.closest("[inert]")) cell?.click();
   }
 
-  #anew({ reached }: Cube) {
-    const words = `Going on from here, this ${isReduced(reached) ? "DR" : "EO"} given up`;
-    return element("tr", { class: "anew" }, element("td", { colspan: 3, class: "note" }, words));
-  }
-
-  #rows(group: Offer[], cube: Cube, list: List | null) {
+  #rows(group: Offer[], cube: Cube) {
     const least = keepsReached(group, cube.reached) ? leastOf(group) : null;
     // where two orientations hold, each has a way of its own to the same reduction
     const isOneOf = new Set(group.map(({ step }) => step.needs)).size > 1;
@@ -145,10 +147,10 @@ export class StepTable {
       element("th", { scope: "row" },
         element("span", { class: "axis" }, isOneOf ? titleOf(offer.step) : stateOf(offer.step)),
         element("small", {}, ` ${caseOfStep(cube.facts, offer.step)}`)),
-      ...SIDES.map((side) => this.#cell(offer, side, { least, made: cube.made, list }))));
+      ...SIDES.map((side) => this.#cell(offer, side, { least, made: cube.made }))));
   }
 
-  #cell(offer: Offer, side: Side, { least, made, list }: { least: number | null; made: number; list: List | null }) {
+  #cell(offer: Offer, side: Side, { least, made }: { least: number | null; made: number }) {
     const [step, count] = [offer.step, offer[side]];
     const [length, all, solutions, word] = wordsOfRow(count, made);
     const name = `${step.name}.${side}`;
@@ -158,7 +160,6 @@ export class StepTable {
       type: "button",
       class: isLeast ? "cell least" : "cell",
       "data-cell": name,
-      "aria-pressed": String(list !== null && name === `${list.step}.${list.side}`),
       "aria-label": `${titleOf(step)}, ${side} side: ${length}, ${all}${solutions}${word}${shortest}`,
       click: () => this.chosen(step.name, side),
     }, element("strong", {}, length), element("small", {}, all, element("span", { class: "together" }, solutions))));

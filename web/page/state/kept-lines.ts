@@ -1,19 +1,32 @@
 // The lines that are kept of a scramble, each known by its moves and by the reduction that it was kept with.
-import { bracketed, type Part } from "../shared/offered-steps.js";
+import { bracketed, stateOf, stepNamed, type Part } from "../shared/offered-steps.js";
 import { MOST_ARE_KEPT } from "../shared/words.js";
-import { MOST_CANDIDATES } from "./limits.js";
+import { LONGEST_NOTE, MOST_CANDIDATES } from "./limits.js";
 import type { Candidate, State } from "./address.js";
 
 export const nameOf = ({ parts, next }: Pick<Candidate, "parts" | "next">) => [bracketed(parts), next].join(" ").trim();
 
-/** Whether lines say what is kept, the first of the reduction that it was kept with too, and nothing more. */
-export function areSaid(candidates: Candidate[], lines: string[]) {
-  const isSaid = ({ parts, next }: Candidate) => {
-    const own = parts.map((each) => bracketed([each])).join(" ");
-    return lines.some((line) => line === own || (next !== "" && line.startsWith(`${own} `)));
-  };
-  return lines.length === candidates.length && candidates.every(isSaid);
+const inOne = (parts: Part[]) => parts.map((each) => bracketed([each])).join(" ");
+
+/** A note without what the page writes before it, of the reduction that a line was kept with. */
+const ownNote = (note: string) => note.replace(/^DR \S+ \S+: \S+ normal, \S+ inverse(, \d+ over both)? */, "");
+
+/** Whether a line says what is kept: one that was kept with a reduction goes on with the first of it. */
+function isSaid({ parts, next }: Candidate, line: string, note: string) {
+  if (next === "") return line === inOne(parts) && ownNote(note) === note;
+  return `${line} `.startsWith(`${inOne(parts)} `) && note.startsWith(`${stateOf(stepNamed(next))} `);
 }
+
+/** Whether lines say what is kept, with its notes, and nothing more. */
+export const areSaid = (candidates: Candidate[], lines: { line: string; note: string }[]) =>
+  lines.length === candidates.length && candidates.every((each) =>
+    lines.some(({ line, note }) => isSaid(each, line, note) && ownNote(note) === each.note));
+
+/** Lines that were read of a text: those that say what was kept are that, with their notes. */
+export const asCopied = (lines: Candidate[], copied: Candidate[]) => lines.map((each) => ({
+  ...(copied.find((one) => isSaid(one, inOne(each.parts), each.note)) ?? each),
+  note: ownNote(each.note).slice(0, LONGEST_NOTE),
+}));
 
 /** What is kept once a line is starred, or no longer if it was. */
 export function withStar(candidates: Candidate[], parts: Part[], next: string): Candidate[] {
@@ -23,8 +36,11 @@ export function withStar(candidates: Candidate[], parts: Part[], next: string): 
 
 /** What is kept once others join, and why not all of them do, or "". */
 export function withOthers(candidates: Candidate[], others: Candidate[]) {
+  const all = new Map<string, Candidate>();
   // of a line that is there twice the first place counts, and the last note
-  const all = new Map([...candidates, ...others, ...candidates].map((each) => [nameOf(each), each]));
+  for (const each of [...candidates, ...others]) {
+    all.set(nameOf(each), { ...each, note: each.note || (all.get(nameOf(each))?.note ?? "") });
+  }
   return { kept: [...all.values()].slice(0, MOST_CANDIDATES), why: all.size > MOST_CANDIDATES ? MOST_ARE_KEPT : "" };
 }
 
@@ -33,6 +49,6 @@ export function joinedStates(own: State, other: State): State {
   const shown = other.parts.length > 0 ? other : own;
   const isLeft = own.parts.length > 0 && bracketed(own.parts) !== bracketed(shown.parts);
   const line = isLeft ? [{ parts: own.parts, note: "", next: "" }] : [];
-  const { kept } = withOthers(own.kept, [...other.kept, ...line]);
+  const { kept } = withOthers(own.kept, [...other.kept, ...line, ...own.kept]);
   return { ...shown, list: shown.list ?? other.list, kept, longer: Math.max(own.longer, other.longer) };
 }
