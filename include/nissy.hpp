@@ -18,6 +18,7 @@
 #include <bitset>
 #include <cstddef>
 #include <cstdint>
+#include <future>
 #include <map>
 #include <mutex>
 #include <new>
@@ -53,11 +54,9 @@ public:
     nissy_fault code() const noexcept { return code_; }
     int line() const noexcept { return line_; } // of a call on two lines which one has it: 1 the scramble, 2 the other; else 0
     std::string_view part() const noexcept { return std::string_view(what()).substr(7, part_); } // what that one is called, as "scramble"
-    // the place of the fault in bytes, from 1; 0 of NISSY_START
-    std::size_t column() const noexcept { return column_; }
+    std::size_t column() const noexcept { return column_; } // the place of the fault in bytes, from 1; 0 of NISSY_START
     std::size_t character(std::string_view line) const noexcept { return detail::character(line, column_); } // the same in characters
-    // what is wrong, without the place; a view into what()
-    std::string_view text() const noexcept { return std::string_view(what()).substr(place_); }
+    std::string_view text() const noexcept { return std::string_view(what()).substr(place_); } // what is wrong, without the place; a view into what()
     // the step that would have to hold, with which text() begins; empty but of NISSY_START
     std::string_view start() const noexcept { return code_ == NISSY_START ? text().substr(0, text().find(' ')) : std::string_view(); }
 
@@ -104,8 +103,7 @@ struct found {
 };
 
 // Which solutions a search is for: those of at most `limit` turns that are at most `slack` turns longer than the shortest, no more than
-// `most` of them, and looking at no more than `nodes` positions. Numbers are wide, here and below, so that one out of its range is reported and
-// not cut to one that is in it.
+// `most` of them, and looking at no more than `nodes` positions. Numbers are wide, here and below: one out of its range is reported, and not cut.
 struct search {
     std::int64_t limit = 20;
     std::int64_t slack = 0;
@@ -118,9 +116,7 @@ struct axis_facts {
     int bad_edges, bad_corners, misplaced_edges;
     std::bitset<12> bad_edge_places, misplaced_edge_places;
     std::bitset<8> bad_corner_places;
-
-    // the case of a domino reduction, as solvers write it, such as "4c4e"
-    std::string dr_case() const { return std::to_string(bad_corners) + "c" + std::to_string(misplaced_edges) + "e"; }
+    std::string dr_case() const { return std::to_string(bad_corners) + "c" + std::to_string(misplaced_edges) + "e"; } // such as "4c4e"
 };
 
 // What is seen of the cube of a line without a search.
@@ -222,8 +218,7 @@ inline std::vector<solution> solutions_of(std::string_view text, std::uint64_t c
     while (!text.empty()) {
         const std::string_view line = text.substr(0, text.find('\n'));
         const std::size_t open = line.rfind('(');
-        const int length = std::stoi(std::string(line.substr(open + 1)));
-        found.push_back({std::string(line.substr(0, open == 0 ? 0 : open - 1)), length});
+        found.push_back({std::string(line.substr(0, open == 0 ? 0 : open - 1)), std::stoi(std::string(line.substr(open + 1)))});
         text.remove_prefix(line.size() + 1);
     }
     return found;
@@ -242,15 +237,21 @@ inline line_facts seen(const nissy_facts_answer &it) {
     return {it.solved != 0, it.moves, it.clean_moves, it.holds, {seen(it.axes[0]), seen(it.axes[1]), seen(it.axes[2])}};
 }
 
-// All lines of a text in pieces: `call` takes as many as it has room for, and `value` makes an answer of what is said of one.
-template <typename Said, typename Call, typename Make> auto all_lines(std::string_view text, Call call, Make make) {
-    std::vector<decltype(make(std::declval<Said>()))> answers;
+// All lines of a text in pieces: `call` takes as many as it has room for, and `make` makes an answer of what is said of one. A thread has a part.
+template <typename Said, typename Call, typename Make, typename Answers = std::vector<decltype(std::declval<Make>()(std::declval<Said>()))>>
+Answers all_lines(std::string_view text, unsigned threads, Call call, Make make) {
+    Answers answers;
     std::vector<Said> said(std::min<std::size_t>(text.size(), 256));
-    while (!text.empty()) {
-        const nissy_lines_answer taken = call(bytes(text), text.size(), said.data(), said.size());
+    const std::size_t end = threads > 1 ? std::min(text.find('\n', text.size() / threads), text.size() - 1) + 1 : text.size();
+    std::future<Answers> others;
+    if (end < text.size()) others = std::async(std::launch::async, [=] { return all_lines<Said>(text.substr(end), threads - 1, call, make); });
+    for (std::string_view own = text.substr(0, end); !own.empty();) {
+        const nissy_lines_answer taken = call(bytes(own), own.size(), said.data(), said.size());
         for (std::uint64_t at = 0; at < taken.lines; at++) answers.push_back(make(said[at]));
-        text.remove_prefix(taken.bytes);
+        own.remove_prefix(taken.bytes);
     }
+    if (others.valid())
+        for (auto &each : others.get()) answers.push_back(std::move(each));
     return answers;
 }
 
@@ -301,10 +302,10 @@ inline line_facts facts(std::string_view line) {
     return detail::seen(answer);
 }
 
-// The same of each line of a text.
-inline std::vector<answer<line_facts>> facts_all(std::string_view text) {
+// The same of each line of a text, by this many threads (with several, compile with -pthread).
+inline std::vector<answer<line_facts>> facts_all(std::string_view text, unsigned threads = 1) {
     const auto make = [](const nissy_facts_answer &said) { return answer<line_facts>(said, detail::seen(said)); };
-    return detail::all_lines<nissy_facts_answer>(text, nissy_facts_lines, make);
+    return detail::all_lines<nissy_facts_answer>(text, threads, nissy_facts_lines, make);
 }
 
 // Whether a solution solves a scramble. A fault also says which line has it.
@@ -367,8 +368,7 @@ public:
                 nissy_solve(&kept_->second, detail::bytes(line), line.size(), limit, slack, which.most, which.nodes, detail::bytes(out), out.size());
             if (answer.status == NISSY_ROOM) continue;
             detail::end_unless_read(answer.status, answer.fault, answer.column, step());
-            const std::string_view text = std::string_view(out).substr(0, answer.length);
-            return {detail::solutions_of(text, answer.solutions), detail::counted(answer)};
+            return {detail::solutions_of(std::string_view(out).substr(0, answer.length), answer.solutions), detail::counted(answer)};
         }
     }
 
@@ -380,14 +380,14 @@ public:
         return detail::counted(answer);
     }
 
-    // The same of each line of a text: `most` and `nodes` are for each anew.
-    std::vector<answer<nissy::count>> count_all(std::string_view text, const search &which = {}) const {
+    // The same of each line of a text, by this many threads (with several, compile with -pthread): `most` and `nodes` are for each anew.
+    std::vector<answer<nissy::count>> count_all(std::string_view text, const search &which = {}, unsigned threads = 1) const {
         const std::uint8_t limit = detail::turns(which.limit, "limit"), slack = detail::turns(which.slack, "slack");
         const auto call = [&](const std::uint8_t *lines, std::size_t length, nissy_search_answer *answers, std::size_t room) {
             return nissy_count_lines(&kept_->second, lines, length, limit, slack, which.most, which.nodes, answers, room);
         };
         const auto make = [this](const nissy_search_answer &said) { return answer<nissy::count>(said, detail::counted(said), step()); };
-        return detail::all_lines<nissy_search_answer>(text, call, make);
+        return detail::all_lines<nissy_search_answer>(text, threads, call, make);
     }
 
 private:

@@ -32,11 +32,9 @@ def _never() -> bool:
     return False
 
 
-def _whole(rows: Continuations, partial: bool) -> Continuations:
-    """Returns what was found, if it may be cut. Raises Cut."""
-    if rows.cut and not partial:
-        raise Cut(Count(None, 0, rows.nodes, True))
-    return rows
+def _told(rows: Continuations, partial: bool, number: Optional[int] = None) -> Union[Continuations, Cut]:
+    """Returns what was found, or if that may not be cut, the cut, of one of many lines by its number."""
+    return Cut(Count(None, 0, rows.nodes, True), line=number) if rows.cut and not partial else rows
 
 
 def line_after(scramble: Text, so_far: Text = "") -> str:
@@ -88,8 +86,11 @@ def best(
     Raises LineFault with `line` 1 for the scramble and 2 for the moves so far, Fault if both have too
     many moves together, and Cut."""
     lines = bytes_of(scramble, "the scramble"), bytes_of(so_far, "the line so far")
-    told, ends = function_of(progress, "the progress") or _untold, function_of(stop, "the stop") or _never
-    return _whole(found(lines, _wanted(slack, most, nodes), told, ends), partial)
+    follow, ends = function_of(progress, "the progress") or _untold, function_of(stop, "the stop") or _never
+    told = _told(found(lines, _wanted(slack, most, nodes), follow, ends), partial)
+    if isinstance(told, Cut):
+        raise told
+    return told
 
 
 @overload
@@ -102,6 +103,7 @@ def best_all(
     partial: Partial,
     threads: int = 1,
     progress: Optional[Progress] = None,
+    stop: Optional[Stop] = None,
 ) -> Iterator[Union[Continuations, Fault]]:
     ...
 
@@ -116,6 +118,7 @@ def best_all(
     partial: bool = False,
     threads: int = 1,
     progress: Optional[Progress] = None,
+    stop: Optional[Stop] = None,
 ) -> Iterator[Union[Continuations, Fault, Cut]]:
     ...
 
@@ -129,18 +132,17 @@ def best_all(
     partial: bool = False,
     threads: int = 1,
     progress: Optional[Progress] = None,
+    stop: Optional[Stop] = None,
 ) -> Iterator[Union[Continuations, Fault, Cut]]:
     """What may follow each scramble in turn, as `best` returns it; of one for which `best` raises, what it raises, with
     the line's number, from 1, as `line` (`raising` raises it). Takes scrambles, threads and `progress` as `solve_all`
-    does; `nodes` is for each scramble anew. By four threads a list takes a fourth of the time on four processors."""
-    wanted = _wanted(slack, most, nodes)
+    does; `nodes` is for each scramble anew. By four threads a list takes a fourth of the time on four processors.
+    `stop` is asked by each thread as `best` asks: once it returns true, what isn't found is cut."""
+    wanted, ends = _wanted(slack, most, nodes), function_of(stop, "the stop") or _never
 
     def ask(number: int, scramble: bytes) -> Union[Continuations, Fault, Cut]:
         try:
-            return _whole(found((scramble, b""), wanted, _untold, _never), partial)
-        except Cut as cut:
-            cut.line = number
-            return cut.with_traceback(None)
+            return _told(found((scramble, b""), wanted, _untold, ends), partial, number)
         except Fault as fault:
             # it is one of many lines, and not one of two
             fault.line, fault.part = number, ""

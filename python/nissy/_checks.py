@@ -53,10 +53,13 @@ class AttemptCheck(NamedTuple):
     """What makes one doubt that the attempt is read as it was meant; None if its solution solves, or has a fault."""
 
     def as_dict(self) -> Dict[str, Any]:
-        """What is said of it, as json.dumps takes it, with the `name` of the attempt."""
+        """What is said of it, as json.dumps takes it, with the `name` of the attempt, and its scramble and solution as
+        lines, in which a fault has its column."""
         checked = None if self.check is None else {**self.check._asdict(), "forms": list(self.check.forms)}
         return {
             "name": self.attempt.name,
+            "scramble": self.attempt.scramble.line,
+            "solution": self.attempt.solution and self.attempt.solution.line,
             "check": checked,
             "fault": self.fault and self.fault.as_dict(),
             "place": self.place and self.place._asdict(),

@@ -8,6 +8,7 @@ isn't 0.
 """
 import itertools
 import sys
+import threading
 from pathlib import Path
 from typing import Any, Callable, Iterator, List, Tuple, Type
 
@@ -233,5 +234,26 @@ def stopped_best(tally: Tally) -> None:
     tally.holds("a cut of its own", raised(nissy.Cut, lambda: nissy.best("U R F", partial=True, stop=own)))
 
 
+def stopped_all(tally: Tally) -> None:
+    """Once many are stopped, all that aren't found are cut, by threads too; what can't be read is told as before."""
+    scrambles, whole = ["U R F", "R q", "U R F L D"], nissy.best("U R F")
+    for threads in (1, 3):
+        told = list(nissy.best_all(scrambles, threads=threads, stop=lambda: True))
+        wanted = [(nissy.Cut, 1), (nissy.LineFault, 2), (nissy.Cut, 3)]
+        tally.equal("at once", [(type(it), getattr(it, "line", None)) for it in told], wanted)
+        rows = list(nissy.best_all(["R U F"], partial=True, threads=threads, stop=lambda: True))
+        tally.equal("nothing is found", [(it, isinstance(it, list) and it.cut) for it in rows], [([], True)])
+        tally.equal("never", list(nissy.best_all(["U R F"], threads=threads, stop=lambda: False)), [whole])
+        own: Callable[[], bool] = lambda: nissy.count("eofb", "F", nodes=7).cut
+        answers = nissy.best_all(["U R F"], threads=threads, stop=own)
+        tally.holds("what it raises ends them", raised(nissy.Cut, lambda: next(answers)))
+    enough = threading.Event()
+    answers = nissy.best_all(scrambles, stop=enough.is_set)
+    tally.equal("the first one is found", next(answers), whole)
+    enough.set()
+    tally.equal("and no other", [type(it) for it in answers], [nissy.LineFault, nissy.Cut])
+    says(tally, TypeError, "the stop is a function or None, not int", lambda: untyped.best_all([], stop=1))
+
+
 if __name__ == "__main__":
-    tried(sides, best, many_rows, all_best, cut_best, stopped_best)
+    tried(sides, best, many_rows, all_best, cut_best, stopped_best, stopped_all)

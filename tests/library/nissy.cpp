@@ -159,10 +159,19 @@ void many_lines_are_answered() {
     holds(tables.count_all("").empty() && nissy::facts_all({}).empty(), "no line", "no text");
     std::string many;
     for (int at = 0; at < 1000; at++) many += at % 3 ? "F\n" : "\n";
-    const auto all = tables.count_all(many);
-    long wrong = all.size() != 1000;
-    for (std::size_t at = 0; at < all.size(); at++) wrong += all[at].value().solutions != (at % 3 ? 2 : 1);
-    holds(wrong == 0, "a thousand lines, in their order", "count_all");
+    for (const unsigned threads : {1u, 2u, 3u, 9u}) {
+        const auto all = tables.count_all(many, {}, threads);
+        long wrong = all.size() != 1000;
+        for (std::size_t at = 0; at < all.size(); at++) wrong += all[at].value().solutions != (at % 3 ? 2 : 1);
+        holds(wrong == 0, "a thousand lines, in their order", "count_all");
+        const auto few = tables.count_all("F\nR q\n\nF B", {}, threads);
+        holds(few.size() == 4 && few[0].value() == counts[0].value() && few[3].value() == counts[3].value(), "few lines by threads", "four lines");
+        holds(!few[1] && few[1].column() == 3 && few[2].value().length == 0, "what is wrong by threads", "R q");
+        const auto seen = nissy::facts_all("R\n(\nR U R\n", threads);
+        holds(seen.size() == 3 && !seen[1] && seen[2].value().ud().dr_case() == "3c2e", "facts by threads", "three lines");
+        holds(tables.count_all("", {}, threads).empty() && nissy::facts_all("\n", threads).size() == 1, "no line, and one", "by threads");
+        throw_each<std::out_of_range>("a slack", {[&] { tables.count_all("F\nR", {20, 21}, threads); }});
+    }
 }
 
 // A search with a bound on positions that it would pass, as the manual has its 75.

@@ -44,6 +44,16 @@ CHECKED: List[Tuple[str, Any, Any, List[Any]]] = [
         [("r'", ("lower_case",), "r' M", 12, 1), ("M", ("slices",), "M //", 12, 4)],
     ),
 ]
+# the scramble and the solution of each
+LINES = [
+    ("R U F", " F' U\u2019 R' "),
+    ("R U", "U' R "),
+    ("D", None),
+    ("D q", None),
+    ("R (U", "U' M "),
+    ("R", "R\u2019 F\u2019 Q "),
+    ("M' r", "r' M "),
+]
 
 
 class Loud(str):
@@ -162,7 +172,7 @@ def checks(tally: Tally) -> None:
     """A text as attempts that are checked."""
     text = "\n".join(attempt for attempt, *_ in CHECKED)
     wanted, begin = [], 0
-    for (attempt, check, fault, forms), name in zip(CHECKED, "1234567"):
+    for (attempt, check, fault, forms), (scramble, solution), name in zip(CHECKED, LINES, "1234567"):
 
         def place(sign: str, line_at: int, column: int) -> Any:
             return {"at": begin + attempt.index(sign), "line": line_at, "column": column}
@@ -173,6 +183,8 @@ def checks(tally: Tally) -> None:
         wanted.append(
             {
                 "name": f"{name}.",
+                "scramble": scramble,
+                "solution": solution,
                 "check": said,
                 "fault": of,
                 "place": fault and place(*fault[5:]),

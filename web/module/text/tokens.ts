@@ -28,9 +28,8 @@ export type FormPlace = {
   character: number;
 };
 
-/** A bracket, or a move: its letters, and what is behind them; and the same whole, which is found sooner. */
-const PARTED_ITEM = /([()])|([UDRLFB]w?|[udrlfbMESxyz])(2?['\u2019]|2)?/g;
-const ITEM = /[()]|(?:[UDRLFB]w?|[udrlfbMESxyz])(?:2?['\u2019]|2)?/g;
+/** A bracket, or a move: its letters, and what is behind them. */
+const ITEM = /([()])|([UDRLFB]w?|[udrlfbMESxyz])(2?['\u2019]|2)?/g;
 
 const QUARTERS = new Map([["", 1], ["2", 2], ["'", -1], ["\u2019", -1], ["2'", 2], ["2\u2019", 2]]);
 const SUFFIXES = new Map([[1, ""], [2, "2"], [-1, "'"]]);
@@ -67,7 +66,7 @@ function tokenOf(letters: string, suffix: string, inverse: boolean): Token {
 export function tokensOf(line: string): Token[] {
   const tokens = [];
   let inverse = false;
-  for (const [, bracket, letters, suffix = ""] of line.matchAll(PARTED_ITEM)) {
+  for (const [, bracket, letters, suffix = ""] of line.matchAll(ITEM)) {
     if (bracket === undefined) tokens.push(tokenOf(letters, suffix, inverse));
     else inverse = bracket === "(";
   }
