@@ -127,8 +127,7 @@ inline std::string trimmed(std::string_view text) {
     return std::string(text);
 }
 
-// Some bytes of a text without the blanks around them.
-// Without signs in front that quote a line.
+// Some bytes of a text without the blanks around them, and without signs in front that quote a line.
 inline std::string words_of(std::string_view text, std::size_t begin, std::size_t end) {
     std::string words = trimmed(text.substr(begin, end - begin));
     while (!words.empty() && words.front() == '>') words = trimmed(std::string_view(words).substr(1));
