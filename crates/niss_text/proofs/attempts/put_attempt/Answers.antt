@@ -48,15 +48,19 @@ loop-at-preserved c =
           (c.judged-told.ensures.attempt ∙ c.told_line-told.ensures.attempt ∙ c.role_of-role.ensures));
       begins = λ begun first.
           subst (λ (ls : List TextLine). Begins text (take (count + 1) ls)) (sym e)
-          (one_more (λ ls. Begins text ls) lines count told (inv.begins begun first) (λ lt. (now + whole,
-          covers_next text lines count now size whole told lt (inv.covers (begun (omega (arith, lt, inv.more, c.loop-at.auto.lines))) (omega (arith, lt)))
-          begins c.judged-told.ensures.doubt (c.judged-told.ensures.ends ∙ c.told_line-told.ensures.ends) unbroken all)));
+          (one_more (λ ls. Begins text ls) lines count told (inv.begins begun first) (λ lt. (
+            now + whole,
+            covers_next text lines count now size whole told lt (inv.covers (begun (omega (arith, lt, inv.more, c.loop-at.auto.lines))) (omega (arith, lt)))
+                begins c.judged-told.ensures.doubt (c.judged-told.ensures.ends ∙ c.told_line-told.ensures.ends) unbroken all,
+          )));
       in_order = λ begun first.
           subst (λ (ls : List TextLine). BeginNumbered (take (count + 1) ls)) (sym e)
           (one_more (λ ls. BeginNumbered ls) lines count told (inv.in_order begun first) (λ lt.
-          let fits = begun (omega (arith, lt, inv.more, c.loop-at.auto.lines)) in
-          (c.args.attempt.now.number + 1, numbered_next lines count c.args.attempt.now.number c.loop-at.at told lt
-          (λ here. inv.first fits here (omega (arith, lt))) (λ later. inv.numbers fits later (omega (arith, lt)))
-          (c.judged-told.ensures.attempt ∙ c.told_line-told.ensures.attempt ∙ c.role_of-role.ensures))));
+          let fits = begun (omega (arith, lt, inv.more, c.loop-at.auto.lines)) in (
+            c.args.attempt.now.number + 1,
+            numbered_next lines count c.args.attempt.now.number c.loop-at.at told lt
+                (λ here. inv.first fits here (omega (arith, lt))) (λ later. inv.numbers fits later (omega (arith, lt)))
+                (c.judged-told.ensures.attempt ∙ c.told_line-told.ensures.attempt ∙ c.role_of-role.ensures),
+          )));
       behind = ap (λ v. drop (count + 1) v) e ∙ same_behind_line lines c.args.lines.now count told inv.behind;
     }
