@@ -119,6 +119,14 @@ pub fn is_framed(text: &[u8]) -> bool {
     }
 }
 
+/// Whether a line begins as all of a scramble does, and more turns follow.
+pub fn begins_scramble(body: &[u8]) -> bool {
+    match behind_frame(trimmed(body)) {
+        Some(rest) => has_turn(rest),
+        None => false,
+    }
+}
+
 /// Whether R' U' F stands somewhere in a text twice in a row, as if one scramble ends where another begins: an apostrophe
 /// between them may be of the words around.
 fn has_two_frames(text: &[u8]) -> bool {

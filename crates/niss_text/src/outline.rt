@@ -1,7 +1,7 @@
 //! Where the attempts of a stretch begin and end, and their scrambles.
 ghost use Rattle.std.specs.Prelude.{◌≡◌, ◌≤◌, ◌<◌, length};
 
-use crate::body::is_framed;
+use crate::body::{begins_scramble, is_framed};
 use crate::line::{
     Beside, Head, Line, Numbers, cut_line, first_line, may_begin, names_solutions, whole_length,
 };
@@ -17,7 +17,7 @@ pub fn is_head(line: &Line) -> bool {
 const MOST_FURTHER_LINES: usize = 7;
 
 /// How many bytes the lines of a whole scramble have that begins a text, whose first line this is; 0 if none does. It may
-/// go on over further lines, which have nothing but moves.
+/// go on over further lines, whatever is said of their moves, up to one that begins another.
 fn whole_scramble_length(text: &[u8], line: &Line, numbers: Numbers) -> usize
     requires { line.now.length ≤ length text.now }
     ensures { result ≤ length text.now }
@@ -33,8 +33,9 @@ fn whole_scramble_length(text: &[u8], line: &Line, numbers: Numbers) -> usize
         if end == text.len() {
             return 0;
         }
-        let (next, length) = cut_line(&text[end..], numbers);
-        if !next.is_moves || next.is_told() || is_head(&next) {
+        let rest = &text[end..];
+        let (next, length) = cut_line(rest, numbers);
+        if !next.is_moves || is_head(&next) || begins_scramble(&rest[next.moves..next.comment]) {
             return 0;
         }
         end += length;
