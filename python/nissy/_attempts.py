@@ -1,9 +1,10 @@
 """Reads what solvers write down of their attempts, by the library: scrambles, each with the steps of a solution and
 candidates beside it. Nothing of it is called at fault here: what is no line of moves is at fault where it is used."""
 import ctypes
+from functools import reduce
 from itertools import accumulate, groupby
-from operator import ne
-from typing import Any, Callable, Dict, Iterator, List, NamedTuple, Optional, Sequence, Tuple
+from operator import ne, or_
+from typing import Any, Callable, Iterator, List, NamedTuple, Optional, Sequence, Tuple
 
 from . import _library
 from ._given import Text, bytes_of
@@ -15,8 +16,8 @@ from ._written import WHITE, Cuts, PlainLine, TextPlace, Written, WrittenLine, w
 _BEFORE, SCRAMBLE, STEP, _NOTE = range(1, 5)
 # whose moves the library writes
 _OF_SCRAMBLE, _OF_STEPS = range(2)
-# 1 for each kind of line whose moves these are
-_IS_OF_SCRAMBLE, _IS_STEP = (bytes(kind == wanted for kind in range(256)) for wanted in (SCRAMBLE, STEP))
+# 1 for each line of such a kind
+_IS_OF = {wanted: bytes(kind == wanted for kind in range(256)) for wanted in (SCRAMBLE, STEP)}
 # the bytes of a line that say what it is, whether it is of the solution, whether it has a head, whether its label says
 # that the solution follows, and what its doubt is
 _BYTES = (0, 1, 2, 3, 5)
@@ -99,15 +100,20 @@ class Moves:
         self._begins, self._ends = (numbers[at :: _PART // 8].tolist() for at in range(2))
         self._left_out, self._cut = parts[_LEFT_OUT_AT::_PART], Cuts(whole, written).cut
 
+    def of_line(self, line: int) -> PlainLine:
+        """Returns the moves of one of those lines."""
+        nth = self._nth[line]
+        return self._cut(self._begins[nth], self._ends[nth], self._left_out[nth])
+
     def of(self, begin: int, end: int) -> PlainLine:
         """Returns the moves of the lines from one to another as one line."""
-        first, last = self._nth[begin], self._nth[end]
-        if first == last:
+        first, last = self._nth[begin], self._nth[end] - 1
+        if first > last:
             return NOTHING
         left_out = self._left_out[first]
-        for more in self._left_out[first + 1 : last]:
-            left_out |= more
-        return self._cut(self._begins[first], self._ends[last - 1], left_out)
+        if first < last:
+            left_out = reduce(or_, self._left_out[first : last + 1])
+        return self._cut(self._begins[first], self._ends[last], left_out)
 
 
 class Reader:
@@ -127,8 +133,7 @@ class Reader:
         )
         self._numbers = self._told.cast("Q")
         self._group = self._numbers[_GROUP::_NUMBERS].__getitem__
-        # by whose they are
-        self._moves: Dict[int, Moves] = {}
+        self._of_scramble, self._of_steps = self._moves(_OF_SCRAMBLE, SCRAMBLE), self._moves(_OF_STEPS, STEP)
 
     def _words(self, line: int, begin: int, end: int) -> str:
         """Returns what stands in a line from one of its places to another."""
@@ -142,20 +147,18 @@ class Reader:
         begins = [0, *firsts, self.count]
         return [it for it in zip(begins, begins[1:]) if self._kinds.find(SCRAMBLE, *it) >= 0]
 
-    def moves(self, which: int) -> Moves:
-        """Returns the moves of all lines that are wanted."""
-        if which not in self._moves:
-            nth = [0, *accumulate(self._kinds.translate(_IS_OF_SCRAMBLE if which == _OF_SCRAMBLE else _IS_STEP))]
-            room = bytearray(_PART * nth[-1] or 1)
-            parts = (ctypes.addressof(ctypes.c_char.from_buffer(room)), nth[-1])
-            written = written_by(
-                3 * (len(self.data) + self.count),
-                lambda *rooms: _library.nissy_text_moves(
-                    self.data, len(self.data), self.address, self.count, which, *rooms, *parts
-                ),
-            )
-            self._moves[which] = Moves(self.whole, written, nth, bytes(room[: _PART * nth[-1]]))
-        return self._moves[which]
+    def _moves(self, which: int, kind: int) -> Moves:
+        """Returns the moves of all lines of a kind, which the library writes by this number."""
+        nth = [0, *accumulate(self._kinds.translate(_IS_OF[kind]))]
+        room = bytearray(_PART * nth[-1] or 1)
+        parts = (ctypes.addressof(ctypes.c_char.from_buffer(room)), nth[-1])
+        written = written_by(
+            3 * (len(self.data) + self.count),
+            lambda *rooms: _library.nissy_text_moves(
+                self.data, len(self.data), self.address, self.count, which, *rooms, *parts
+            ),
+        )
+        return Moves(self.whole, written, nth, bytes(room[: _PART * nth[-1]]))
 
     def _note(self, line: int) -> str:
         """Returns what a line without moves says: its label, if nothing follows that, else all of it."""
@@ -170,13 +173,12 @@ class Reader:
         return self._words(line, _LABEL_BEGIN, _LABEL_END)
 
     def _steps(self, lines: Sequence[int]) -> Tuple[PlainLine, ...]:
-        moves = self.moves(_OF_STEPS)
-        return tuple([moves.of(line, line + 1) for line in lines])
+        return tuple(map(self._of_steps.of_line, lines))
 
     def _joined(self, lines: Sequence[int]) -> _Joined:
         """Returns the moves of the steps of a group, and all in one: no other step stands among them."""
         steps = self._steps(lines)
-        return steps, steps[0] if len(steps) == 1 else self.moves(_OF_STEPS).of(lines[0], lines[-1] + 1)
+        return steps, steps[0] if len(steps) == 1 else self._of_steps.of(lines[0], lines[-1] + 1)
 
     def _candidates(
         self, begin: int, end: int, steps: Sequence[int], told: Sequence[int], made: _Joined
@@ -186,18 +188,18 @@ class Reader:
         groups = [(group, [*lines]) for group, lines in groupby(steps, self._group)]
         # a group's other lines are between the steps of the groups before it and after it
         ends = [*(lines[0] for _, lines in groups[1:]), end]
+        is_said = self._kinds.find(_NOTE, begin, end) >= 0 or self._are_labelled.find(1, begin, end) >= 0
         for (group, own), behind in zip(groups, ends):
             if group > 0:
                 every, solution = made if own == told else self._joined(own)
-                yield value_of(AttemptCandidate, (every, solution, self._said_of(group, begin, behind)))
+                said = self._said_of(group, begin, behind) if is_said else ""
+                yield value_of(AttemptCandidate, (every, solution, said))
             begin = own[-1]
 
     def _said_of(self, group: int, begin: int, end: int) -> str:
         """Returns what is said of a group on lines of its own among some, else its label that says that the solution
         follows."""
         kinds, are_labelled = self._kinds, self._are_labelled
-        if kinds.find(_NOTE, begin, end) < 0 and are_labelled.find(1, begin, end) < 0:
-            return ""
         own = [at for at in range(begin, end) if kinds[at] >= STEP and self._group(at) == group]
         note = " ".join([self._note(at) for at in own if kinds[at] == _NOTE])
         return note or next((self._label(at) for at in own if are_labelled[at]), "")
@@ -216,12 +218,11 @@ class Reader:
 
     def attempt(self, begin: int, end: int, doubt: Optional[AttemptDoubt]) -> Attempt:
         """Returns the attempt that the lines from one to another are, which is in this doubt."""
-        moves = self._moves.get(_OF_SCRAMBLE) or self.moves(_OF_SCRAMBLE)
-        scramble, before = moves.of(begin, end), self._kinds.count(_BEFORE, begin, end)
+        kinds, headed = self._kinds[begin:end], self._are_headed[begin:end].find(1)
+        scramble, before = self._of_scramble.of(begin, end), kinds.count(_BEFORE)
         # the first head
-        headed = self._are_headed.find(1, begin, end)
-        name = self._words(headed, _BEGIN, _HEAD_END) if headed >= 0 else ""
-        if self._kinds.find(STEP, begin, end) < 0:
+        name = self._words(begin + headed, _BEGIN, _HEAD_END) if headed >= 0 else ""
+        if STEP not in kinds:
             return value_of(Attempt, (name, scramble, (), None, (), before, doubt))
         steps, solution, candidates = self._after_scramble(begin, end)
         return value_of(Attempt, (name, scramble, steps, solution, candidates, before, doubt))

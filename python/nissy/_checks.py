@@ -16,6 +16,8 @@ from ._written import PlainLine, TextPlace, Written, end_unless_made, string_of
 
 # the numbers of `nissy_attempt_check` of nissy_text.h
 _Told = Tuple[Any, ...]
+# where those of its check begin
+_OF_CHECK = 10
 # the library's numbers of no scramble and of no place, and of the doubt of a part, which isn't one of the reading
 _NONE, _A_PART = 2**64 - 1, 9
 # a text as long as that has as many bytes written of it and of its lines as are never too few
@@ -129,8 +131,8 @@ class _Checks:
 
     def _made(self, told: _Told) -> AttemptCheck:
         """Returns what is said of an attempt. Raises Fault if a line of it has too many bytes."""
-        _, _, _, first, end, fault_at, doubt_at, number, is_doubted, is_checked, *answer = told
-        status, fault, line, solved, column, moves, clean_moves, forms = answer
+        _, _, _, first, end, fault_at, doubt_at, number, is_doubted, is_checked = told[:_OF_CHECK]
+        status, fault, line, solved, column, moves, clean_moves, forms = told[_OF_CHECK:]
         doubt = self._reader.doubt(number, doubt_at) if number else None
         # that of its reading
         read = None if number == _A_PART else doubt

@@ -11,7 +11,7 @@ from ._library import DONE, FACTS_ANSWER
 from ._lines import fault_of, steps
 from ._many import Asking, Piece, in_pieces, pair_by_pair
 from ._stickers import AXES, CORNER_PLACES, EDGE_PLACES, Axis
-from ._values import Fault, named, of_pair
+from ._values import Fault, named, of_pair, value_of
 
 # the forms by the bits of the library's masks
 _FORMS = ("slices", "lower_case", "brackets", "apostrophe", "half_prime")
@@ -277,4 +277,4 @@ def check_of(answer: Any) -> Check:
 
 def check_by_numbers(solved: int, moves: int, clean_moves: int, forms: int) -> Check:
     """Returns the same by its numbers."""
-    return Check(solved == 1, moves, clean_moves, _forms(forms))
+    return value_of(Check, (solved == 1, moves, clean_moves, _forms(forms)))

@@ -16,9 +16,10 @@ else:
 
 # the letters of a move, and what follows them; the line was read by the library before
 _LETTERS, _SUFFIX = "[UDRLFB]w?|[udrlfbMESxyz]", "2?['\u2019]|2"
-# a bracket, or a move by these parts; and the same as it stands there, which is found sooner
+# a bracket, or a move by these parts
 _ITEM = re.compile(f"([()])|({_LETTERS})({_SUFFIX})?")
-_WHOLE_ITEM = re.compile(f"[()]|(?:{_LETTERS})(?:{_SUFFIX})?")
+# those that have forms: by the letters, or else by what follows them
+_WITH_FORMS = re.compile(f"[()]|[udrlfbMES](?:{_SUFFIX})?|(?:{_LETTERS})(?:2?\u2019|2')")
 _QUARTERS = {"": 1, "2": 2, "'": -1, "\u2019": -1, "2'": 2, "2\u2019": 2}
 _APOSTROPHE = "\u2019"
 _SUFFIXES = {1: "", 2: "2", -1: "'"}
@@ -118,8 +119,6 @@ def form_places(line: Text) -> List[FormPlace]:
 def forms_of(text: str) -> Iterator[Tuple[str, Tuple[str, ...], int]]:
     """Yields each move and bracket that has forms, of a line that the library has read, with these and its place, from
     0."""
-    for it in _WHOLE_ITEM.finditer(text):
+    for it in _WITH_FORMS.finditer(text):
         item = it.group()
-        forms = _forms_of(item)
-        if forms:
-            yield item, forms, it.start()
+        yield item, _forms_of(item), it.start()

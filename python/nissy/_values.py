@@ -110,7 +110,7 @@ class LineFault(Fault):
 
     def __init__(self, column: int, text: str, line: Optional[int] = None, character: Optional[int] = None) -> None:
         # of a long text there may be many
-        ValueError.__init__(self, text)
+        self.args = (text,)
         self.text = text
         self.line = line
         self.column = column

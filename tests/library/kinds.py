@@ -163,10 +163,10 @@ def calls_of(text: str) -> float:
 def calls(tally: Tally) -> None:
     """What is told of an attempt takes few calls, into which most of the time of short ones goes."""
     most = {
-        "1. R Q\n": 12,
-        "1. R U F\n\nF\u2019 U\u2019 R\u2019\n\n": 35,
-        "1. R U F\nR' U' // inverse\nF // EO\n\n": 40,
-        f"{FIRST}\n{OF_FIRST} R\n": 20,
+        "1. R Q\n": 11,
+        "1. R U F\n\nF\u2019 U\u2019 R\u2019\n\n": 30,
+        "1. R U F\nR' U' // inverse\nF // EO\n\n": 30,
+        f"{FIRST}\n{OF_FIRST} R\n": 14,
     }
     for piece, bound in most.items():
         count = calls_of(piece * 100)

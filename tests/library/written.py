@@ -44,9 +44,9 @@ CHECKED: List[Tuple[str, Any, Any, List[Any]]] = [
         [("r'", ("lower_case",), "r' M", 12, 1), ("M", ("slices",), "M //", 12, 4)],
     ),
 ]
-# the scramble and the solution of each
+# the scramble and the solution of each, up to the comment
 LINES = [
-    ("R U F", " F' U\u2019 R' "),
+    ("R U F", "F' U\u2019 R' "),
     ("R U", "U' R "),
     ("D", None),
     ("D q", None),
