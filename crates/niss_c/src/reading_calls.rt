@@ -1,7 +1,7 @@
 //! The calls that read text as solvers write it.
 ghost use Rattle.std.specs.Prelude.{◌≡◌, ◌≤◌, ◌<◌, ◌*◌, ◌⊎◌, length, take, drop};
 ghost use Rattle.niss_text.specs.Plain.{IsPlain};
-ghost use Rattle.niss_text.specs.Lines.{Covers, Counts, Takes, AreNumbered};
+ghost use Rattle.niss_text.specs.Lines.{Covers, Counts, Takes, AreNumbered, Begins, BeginNumbered};
 ghost use Rattle.niss_text.specs.Moves.{WritesMoves};
 ghost use Rattle.niss_text.specs.Known.{AreKnown, AreApart, HaveLines};
 
@@ -29,6 +29,8 @@ pub extern "C" fn nissy_text_lines(text: &[u8], lines: &mut [TextLine]) -> TextA
     ensures covers { result.lines ≤ length lines.old → Covers text.now 0 (take result.lines lines.new) (length text.now) }
     ensures counts { Counts text.now 0 result.lines (length text.now) }
     ensures numbers { result.lines ≤ length lines.old → AreNumbered 0 (take result.lines lines.new) result.attempts }
+    ensures begins { Begins text.now (take result.lines lines.new) }
+    ensures in_order { BeginNumbered (take result.lines lines.new) }
     ensures few { result.lines ≤ length text.now }
     ensures done { result.lines ≤ length lines.old → result.status ≡ 0 }
     ensures room { length lines.old < result.lines → result.status ≡ 4 }
