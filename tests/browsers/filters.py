@@ -90,12 +90,18 @@ def of_a_list(tally: Tally, browser: Browser) -> None:
     tally.equal("another list has none", browser.script(SIGNS, "list"), ["", ""])
 
 
+# how far a list's field begins right of the first one, and how far below that the rows begin
+PLACES = """const [above, field, note] = ['[for=slack]', '[for=filter]', '#solutions-note'].map((each) =>
+        document.querySelector(each).getBoundingClientRect());
+    return [field.left - above.left, note.top - above.top]"""
+
+
 def of_one(tally: Tally, browser: Browser) -> None:
     """A case that all rows have is no choice, and isn't offered, but keeps its place; moves may be typed in each list, which no fold hides."""
     after = f"{address_of(LONGER)}&steps=inverse.B_D_R_F2_B_D"
     for width in (1280, 360, 320):
         browser.resize(width, 740)
-        tops = []
+        places = []
         for step, side, is_choice in (
             ("drrl-eoud", "inverse", False),
             ("drrl-eoud", "normal", True),
@@ -109,8 +115,9 @@ def of_one(tally: Tally, browser: Browser) -> None:
             offered = "return getComputedStyle(part('list-filters')).visibility === 'visible'"
             tally.equal(f"{width}: {step} {side}: whether these are offered", browser.script(offered), is_choice)
             tally.holds(f"{width}: {step} {side}: moves may be typed", browser.look("filter?"))
-            tops.append(browser.script("return part('solutions-note').offsetTop - part('solutions').offsetTop"))
-        tally.equal(f"{width}: where the rows begin: {tops}", len(set(tops)), 1)
+            places.append(browser.script(PLACES))
+        _, top = places[0]
+        tally.equal(f"{width}: at the left, and as far above the rows", places, [[0, top]] * len(places))
     browser.script(TYPE, "", "U U")
     browser.walk(tally, "one that is typed is cleared", ("click", "#list-clear", {"focus": "filter", "filter=": ""}))
     browser.resize()

@@ -45,6 +45,25 @@ def shows_focus(tally: Tally, browser: Browser) -> None:
     tally.equal("where the Tab key doesn't come to", STOPS - set(stops), set())
 
 
+def shows_focus_above(tally: Tally, browser: Browser) -> None:
+    """On a phone what has the focus comes into view below the bar that stays there, if that stood on it too."""
+    hidden = """const hidden = [];
+        for (const each of seen(":is(a, button, input, select, summary, textarea):not(:disabled)").filter((one) => one.closest("main"))) {
+            scrollTo({ top: each.getBoundingClientRect().top + scrollY - 10, behavior: "instant" });
+            each.focus();
+            const is_seen = each.getBoundingClientRect().top >= part("bar").getBoundingClientRect().bottom;
+            if (document.activeElement === each && !is_seen) hidden.push(each.id || each.textContent);
+        }
+        return hidden"""
+    browser.resize(360, 740)
+    browser.open(ADDRESS)
+    browser.follow("#scramble=R_U_F")
+    browser.follow(ADDRESS)
+    browser.wait_best()
+    tally.holds("there are chips of scrambles, and folds", browser.look("desk?") and browser.texts("#kept-list summary"))
+    tally.equal("what is below the bar", browser.script(hidden), [])
+
+
 def shows_focus_below(tally: Tally, browser: Browser) -> None:
     """In a low window that is scrolled to its end the Tab key brings the focus into view, in the column that stays there too."""
     browser.resize(1280, 560)

@@ -21,7 +21,7 @@ import {
 } from "./shared/offered-steps.js";
 import { StepTable, cubeWithOffers, type Cube } from "./cards/step-table.js";
 import {
-  awaitAnswer, isBare, keepInView, listenToKeys, setUsable, showBeginning, showStart, star,
+  areBeside, awaitAnswer, isBare, keepInView, listenToKeys, setUsable, showBeginning, showStart, star, withoutMoving,
 } from "./shared/view.js";
 import { tellFailed } from "./shared/watch.js";
 import { titleOfPage, unanswered, whyNotListed, whyUnread, wordsOfDoubt } from "./shared/words.js";
@@ -256,9 +256,13 @@ export class Page {
     setUsable(true);
     // no solved cube is left, dimmed, beside the first scramble that can't be read
     for (const name of ["cube", "choices"]) part(name).hidden = isBare(this.#state);
-    this.#best.expect(reached, isBare(this.#state));
+    // in one column a line that is seen stays, also where the page becomes too low for the browser to keep it there
+    const isSeen = !areBeside() && part("line").getBoundingClientRect().top < innerHeight;
+    withoutMoving(part(isSeen ? "line" : "scramble-card"), () => {
+      this.#best.expect(reached, isBare(this.#state));
+      this.#table.begin(cube);
+    });
     this.#checkList(reached);
-    this.#table.begin(cube);
     this.#showKept();
     return cube;
   }

@@ -134,7 +134,6 @@ export class Filters<Row> {
     return this.#fields().filter(({ value }) => value.trim() !== "").length;
   }
 
-  /** Says how many these are. */
   show() {
     const { count, name } = this;
     tell(part(`${name}-on`), count === 0 ? "" : `${count} on`);

@@ -43,7 +43,6 @@ export async function cubeWithOffers(
 }
 
 const wordsOfAnew = (state: string) => `Going on from here, this ${state} given up`;
-
 const areReductions = ([{ step }]: Offer[]) => step.needs !== null;
 
 /** Whether some offers keep what is reached: each does where that is nothing, and a reduction keeps its orientation. */
@@ -68,14 +67,13 @@ export class StepTable {
     part("choices").inert = true;
   }
 
-  /** Begins with another cube, of which is told what it reaches. */
+  /** Begins with another cube, of which is told what it reaches; steps that give up a reduction are folded once. */
   begin({ reached }: Cube) {
     const states = statesOf(reached);
     part("reached").hidden = states.length === 0;
     part("reached").replaceChildren(...(states.length === 0 ? [] : ["Reached: "]), ...states.flatMap((state) =>
       [element("span", { class: "chip", "data-marks": state }, state), " "]));
     const isOver = isReduced(reached);
-    // what gives a reduction up is folded once
     if (part("steps-anew").hidden === isOver) part("steps-fold").open = !isOver;
     tell(part("steps-anew"), isOver ? wordsOfAnew("DR") : "");
   }
@@ -119,7 +117,6 @@ export class StepTable {
     places.find(mayHave)?.focus({ preventScroll: true });
   }
 
-  /** Marks the cell of the list that is open, which is seen. */
   mark(list: List | null) {
     if (list) part("steps-fold").open = true;
     const open = list && `${list.step}.${list.side}`;
