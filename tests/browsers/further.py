@@ -27,6 +27,12 @@ const tried = "1,160 rows. Up to 2 longer: 1,244,538 rows, none better.", held =
 return [said("", ""), said(tried, ""), said(tried, "120 better rows, from 10 moves"), said(`Stopped. ${tried}`, "120 better rows, from 10 moves"),
   said(held, ""), said(held, "120 better rows, from 10 moves")];
 """
+# by how many points the button of what was found reaches below the line that it stands in, on a phone
+COVERED = """
+const [note, found] = ["best-note", "best-new"].map((name) => document.getElementById(name));
+[found.textContent, found.hidden] = ["1,160 better rows", false];
+return Math.max(0, Math.round(found.getBoundingClientRect().bottom - note.getBoundingClientRect().top));
+"""
 WIDTHS = (1920, 1440, 1180, 1024, 960, 900, 768, 640, 601, 600, 430, 390, 360, 320)
 # longer than the page waits before it goes on
 LONGER_THAN_REST = 2
@@ -288,3 +294,6 @@ def has_room(tally: Tally, browser: Browser) -> None:
         browser.resize(width, 900)
         tops = browser.script(TOPS)
         tally.equal(f"{width} points: the head has one height", tops, tops[:1] * len(tops))
+    for width in (430, 390, 360):
+        browser.resize(width, 900)
+        tally.equal(f"{width} points: no button covers what is said", browser.script(COVERED), 0)

@@ -326,7 +326,8 @@ export class BestContinuations {
     part("best-more").hidden = this.#shown >= left;
     const rows = this.#joining();
     const kind = rows[0]?.total < this.#seen[0]?.total ? "better" : "more";
-    const words = rows.length === 0 ? "" : `${counted(rows.length, `${kind} row`)}, from ${rows[0].total} moves`;
+    const from = isNarrow() ? "" : `, from ${rows[0]?.total} moves`;
+    const words = rows.length === 0 ? "" : counted(rows.length, `${kind} row`) + from;
     tell(part("best-new"), words);
     part("best-note").textContent = this.#note(this.#progress, left, rows.length > 0);
   }
