@@ -145,7 +145,3 @@ class Code:
     def libraries(self) -> list[str]:
         """Returns the crates that have definitions."""
         return sorted(path.parent.name for path in self.top.glob("crates/*/specs"))
-
-    def stems(self, folder: str, ending: str) -> set[str]:
-        """Returns the names of files below a folder, without folders and ending."""
-        return {path.stem for path in (self.top / folder).rglob(f"*{ending}")}
