@@ -186,10 +186,10 @@ class Reader:
         groups = [(group, [*lines]) for group, lines in groupby(steps, self._group)]
         # a group's other lines are between the steps of the groups before it and after it
         ends = [*(lines[0] for _, lines in groups[1:]), end]
-        for (group, own), behind in zip(groups, ends):
+        for (group, own), after in zip(groups, ends):
             if group > 0:
                 every, solution = made if own == told else self._joined(own)
-                yield value_of(AttemptCandidate, (every, solution, self._said_of(group, begin, behind)))
+                yield value_of(AttemptCandidate, (every, solution, self._said_of(group, begin, after)))
             begin = own[-1]
 
     def _said_of(self, group: int, begin: int, end: int) -> str:

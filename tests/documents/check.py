@@ -90,7 +90,7 @@ def fences(tally: Tally, pages: list[Page]) -> None:
 
 
 def readme(tally: Tally, page: Page) -> None:
-    """README has links, is short, and names the logic of the kit that is here, where one is."""
+    """README has links, is short, and names the logic of the kit that is here, if one is."""
     tally.holds("README.md has links", page.links())
     tally.holds(f"README.md has at most {MOST_LINES} lines", len(page.lines) <= MOST_LINES)
     if shutil.which("rt"):

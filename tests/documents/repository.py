@@ -117,7 +117,7 @@ class Code:
         return {named[2] for line in lines if (named := NAMED.fullmatch(line))}
 
     def exported(self, crate: str) -> set[str]:
-        """Returns the functions that a crate exports, but its laws, each behind the name of its type or of its file."""
+        """Returns the functions that a crate exports, but its laws, each after the name of its type or of its file."""
         used = re.findall(
             r"^pub use (?!niss_)[\w:]+::(\w+|\{[^}]*\});", self.texts[f"crates/{crate}/src/lib.rt"], re.MULTILINE
         )

@@ -39,7 +39,7 @@ NUMBERS = [(0, 0), (3, 0), (20, 0), (2, 1), (3, 2), (3, 20)]
 LINES_OF = {"text": [1], "fault": [0], "forms": [0], "facts": [0], "check": [0, 1], "tokens": [0]}
 # what a system might take for the end of a line or of a file
 OF_SYSTEMS = [b"R\r\nU\r\n", b"R\x1aU\n", b"\x1a", b"U\r", b"\xef\xbb\xbfR\n"]
-# after these alone several steps hold, or all
+# only after these several steps hold, or all
 HALF_TURNS: list[Move] = [(face, 2) for face in "UDRLFB"]
 ORDER = model.run(["steps"])[0].decode().split()
 # of facts how many steps hold, and of checks whether they solve

@@ -151,7 +151,7 @@ def main() -> None:
                 seen.update(line.partition("@")[0] for line in parts(wanted)[DOUBTS].split("\n"))
             for host, told in zip(hosts[1:], of_others):
                 for text, got, wanted in zip(portion, told, of_first):
-                    # what C tells ends behind its last part
+                    # what C tells ends after its last part
                     same = got == wanted or (host.name == "C" and wanted.startswith(got.rstrip()))
                     # one line for all that hold
                     tally.holds("" if same else f"{text!r} in {host.name}: {parts(got)!r} for {parts(wanted)!r}", same)

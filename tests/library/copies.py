@@ -91,7 +91,7 @@ def copies(tally: Tally) -> None:
 
 def dicts(tally: Tally) -> None:
     """What is told of a cube or of a list as a dict, which goes to JSON and comes back as it is."""
-    # R flips four edges on its own axis alone; it twists four corners, and takes two edges out of each slice beside it and two others in
+    # R flips four edges only on its own axis; it twists four corners, and takes two edges out of each slice beside it and two others in
     edges, corners = ["UR", "DR", "FR", "BR"], ["URF", "UBR", "DFR", "DRB"]
     wanted = {
         "solved": False,

@@ -54,7 +54,7 @@ bool first_reaches(const Step &step, const Cube &cube, const Pair &pair) {
 
 enum Kind { NORMAL, INVERSE, BOTH };
 
-// all canonical sequences of some turns on one side, and behind each all of the other side that reach the step with it
+// all canonical sequences of some turns on one side, and after each all of the other side that reach the step with it
 struct Search {
     const Step &step;
     const std::vector<uint8_t> &far;
