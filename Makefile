@@ -10,7 +10,7 @@ PYTHONDIR ?= $(shell tools/python-folder "$(PREFIX)")
 BUILD ?= build
 # `make install LIBRARY=no` leaves out what needs a C compiler, binutils and Python 3 to be built.
 LIBRARY ?= yes
-# asked for by `make dist` alone
+# asked for only by `make dist`
 VERSION = $(shell tools/version)
 SONAME := libnissy.so.2
 # What is built is proved first: if the kit isn't there, a build says so.
@@ -23,7 +23,7 @@ SOURCES := HANDLES crates.txt $(shell find crates \( -name out -o -name niss_tes
 # the page, if the tools are here that it needs besides the kit
 THE_PAGE := $(and $(shell command -v wasm-opt),$(shell command -v tsc),build/nissy.html)
 
-# Where a distribution looks for each file: below PREFIX, or, behind `@lib` and `@python`, below LIBDIR and PYTHONDIR. A package is built with
+# Where a distribution looks for each file: below PREFIX, or, after `@lib` and `@python`, below LIBDIR and PYTHONDIR. A package is built with
 # `make install DESTDIR=FOLDER PREFIX=/usr`: the files go below FOLDER, and PREFIX says where they will stand. `make uninstall` takes the
 # same words.
 LIBRARY_FILES := \

@@ -1,4 +1,4 @@
-# Completion of nissy's commands and step names in bash. Moves and numbers are the user's own, and files stand behind < and > alone.
+# Completion of nissy's commands and step names in bash. Moves and numbers are the user's own, and files stand only after < and >.
 _nissy() {
     local word=${COMP_WORDS[COMP_CWORD]} words=
     # there bash offers them by itself

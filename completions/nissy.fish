@@ -1,4 +1,4 @@
-# Completion of nissy's commands and step names in fish. Moves and numbers are the user's own, and files stand behind < and > alone.
+# Completion of nissy's commands and step names in fish. Moves and numbers are the user's own, and files stand only after < and >.
 complete -c nissy -f
 complete -c nissy -n __fish_use_subcommand -a invert -d 'the inverse of each line'
 complete -c nissy -n __fish_use_subcommand -a unniss -d 'each line in one list without brackets'

@@ -84,7 +84,7 @@ class Handler(BaseHTTPRequestHandler):
 
 
 def main() -> None:
-    """Listens at a port of this machine alone."""
+    """Listens at a port that only this machine reaches."""
     if len(sys.argv) != 2:
         sys.exit(__doc__)
     server = ThreadingHTTPServer(("127.0.0.1", int(sys.argv[1])), Handler)

@@ -154,7 +154,7 @@ static bool tell_none(void) {
     return put_text(text);
 }
 
-/* Writes a list in pieces, each of which goes on behind the last solution of the one before. */
+/* Writes a list in pieces, each of which goes on after the last solution of the one before. */
 static bool solve(const uint8_t *line, size_t length, uint32_t number) {
     static uint8_t found[FOUND_ROOM];
     const nissy_tables *tables = &command.tables;
@@ -191,7 +191,7 @@ static bool answer_lines(const uint8_t *lines, size_t length, uint32_t *number) 
 
 /* --- the input --- */
 
-/* A line whose end hasn't come. No input is longer; of the room those pages alone are taken that are used. */
+/* A line whose end hasn't come. No input is longer; of the room only those pages are taken that are used. */
 static struct open_line {
     uint8_t bytes[NISSY_MOST_INPUT];
     size_t length;
@@ -295,15 +295,15 @@ static size_t joined_length(int count, char **words) {
     return length;
 }
 
-/* The words, each with a byte behind it. */
-static uint8_t *joined(int count, char **words, char behind) {
+/* The words, each with a byte after it. */
+static uint8_t *joined(int count, char **words, char after) {
     uint8_t *text = malloc(joined_length(count, words) + 1), *at = text;
     if (text == NULL) return NULL;
     for (int word = 0; word < count; word += 1) {
         size_t length = strlen(words[word]);
         memcpy(at, words[word], length);
         at += length;
-        *at++ = (uint8_t)behind;
+        *at++ = (uint8_t)after;
     }
     return text;
 }
@@ -324,7 +324,7 @@ static bool answer_words(int count, char **words) {
 
 /* Does what the words say that take no lines. */
 static bool run(int count, char **words) {
-    static uint8_t out[RUN_ROOM]; /* of which those pages alone are taken that are used */
+    static uint8_t out[RUN_ROOM]; /* of which only those pages are taken that are used */
     uint8_t *text = joined(count, words, 0), err[NISSY_ERROR_ROOM];
     if (text == NULL) return out_of_memory();
     size_t length = joined_length(count, words);

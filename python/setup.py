@@ -46,7 +46,7 @@ class WithLibrary(build_py):
 
 
 class OfOneProcessor(Distribution):
-    """The package, which isn't one of Python alone: it stands with those of this processor."""
+    """The package, which isn't only in Python: it stands with those of this processor."""
 
     def has_ext_modules(self) -> bool:
         """Whether something in it is for one kind of processor, as extension modules are: the library is."""
@@ -57,7 +57,7 @@ class ForLinux(bdist_wheel):
     """Packs a wheel for any Python 3 on Linux: the library is linked with the C library 2.14, on ARM 2.17, and needs no newer one."""
 
     def get_tag(self) -> Tuple[str, str, str]:
-        """The platform has two names: a pip of before 20.3 knows the second alone."""
+        """The platform has two names: a pip of before 20.3 knows only the second."""
         return "py3", "none", f"manylinux_2_17_{machine()}.manylinux2014_{machine()}"
 
 

@@ -44,7 +44,7 @@ if missing qemu-aarch64 || missing $cross-gcc; then left_out "qemu-user or gcc-$
 is_for_arm() { readelf -hW "$1" | grep -q 'Machine: *AArch64'; }
 for file in nissy libnissy.so.2; do holds "$file is for ARM" is_for_arm "$folder/$file"; done
 shows_calls "$folder" "$cross-"
-holds "the program needs the C library alone" test "$(needed $cross-objdump -p "$folder/nissy")" = libc.so.6
+holds "the program needs only the C library" test "$(needed $cross-objdump -p "$folder/nissy")" = libc.so.6
 newest() { $cross-objdump -T "$1" | grep -oE 'GLIBC_[0-9.]+' | sort -Vu | tail -n 1; }
 holds "the library needs its version 2.17" test "$(newest "$folder/libnissy.so.2")" = GLIBC_2.17
 holds "the program 2.34" test "$(newest "$folder/nissy")" = GLIBC_2.34

@@ -15,7 +15,7 @@ export NISSY_LIBRARY=$folder/libnissy.so.2
 
 if missing python3 || [ ! -e "$NISSY_LIBRARY" ]; then skips_all "there is no python3 here, or no library that make lib built"; fi
 typed tests/hosts/*.py
-# -O0 behind -O1, as in library.sh
+# -O0 after -O1, as in library.sh
 others=() in_c=()
 # shellcheck disable=SC2034 # by eval
 sanitized=(-O0 "-fsanitize=address,undefined" -fno-sanitize-recover=all)

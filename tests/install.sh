@@ -164,8 +164,8 @@ by_tab() { # LINE: its words and its input, after the Tab key, in a bash that st
         FILE=$share/bash-completion/completions/nissy HOME=$room/typed env -C "$room/typed" bash --norc --noprofile -i 2> /dev/null
 }
 mkdir "$room/typed" && echo "R U" > "$room/typed/scrambles.txt"
-holds "bash completes a file behind <" test "$(by_tab "nissy invert < scr")" = "$(printf 'invert\nR U')"
-holds "and one behind >" test "$(by_tab "nissy steps < /dev/null > scr"; cat "$room/typed/scrambles.txt")" = steps
+holds "bash completes a file after <" test "$(by_tab "nissy invert < scr")" = "$(printf 'invert\nR U')"
+holds "and one after >" test "$(by_tab "nissy steps < /dev/null > scr"; cat "$room/typed/scrambles.txt")" = steps
 holds "and none among moves" test "$(by_tab "nissy invert scr")" = "$(printf 'invert\nscr')"
 listed_in() { # PAGE: the commands that it offers or explains
     case $1 in
@@ -222,7 +222,7 @@ with_others() { # installs among files that aren't its own
 holds "make install succeeds again" with_others
 holds "make uninstall succeeds beside other files" install_at uninstall
 holds "the other files are left" test "$(find "$packed" -type f | wc -l)" -eq 3
-holds "make uninstall succeeds where nothing is installed" install_at uninstall
+holds "make uninstall succeeds if nothing is installed" install_at uninstall
 builds_first() { make -n -B install | grep -F 'tools/program build/nissy'; }
 cd "$top" || exit 2
 holds "make install proves and builds first" builds_first

@@ -29,7 +29,7 @@ made=$room/made
 mkdir "$made"
 strict=(-O1 -Wall -Wextra -Wpedantic -Werror -Iinclude -Itests/library "-I$room/rows")
 rows_in_c "$room/rows"
-# -O0 behind -O1, by which the sanitizers take a compiler more than twice as long
+# -O0 after -O1, by which the sanitizers take a compiler more than twice as long
 sanitized=(-O0 -g1 "-fsanitize=address,undefined" -fno-sanitize-recover=all)
 for_races=(-O0 -g1 -fsanitize=thread)
 compiled() { # PROGRAM NAME WORD..: compiles the test of this name against the archive, with these words too
@@ -57,7 +57,7 @@ tried() { # NAME: the test in C of this name
     fi
     case $name in
         # It sees what the library itself reads and writes, unlike the sanitizer for threads, by which portable.sh tries the file in C.
-        # Searches alone, since a run takes it seconds.
+        # Only searches, since a run takes it seconds.
         threads) valgrinds --tool=helgrind "$made/$name" 0 10 ;;
         # It makes each byte thirty times as slow. Its own malloc takes no wraps, and a handler's small stack isn't for it.
         calls | ways | sides) valgrinds --leak-check=full "$made/$name" few ;;

@@ -49,7 +49,7 @@ holds "what is installed" installed
 stands_in() { (cd "$1" && find . ! -type d ! -name README -printf '%m %P\n' | LC_ALL=C sort); }
 holds "is what the archive has" test "$(stands_in "$room/unpacked/$archive")" = "$(stands_in "$room/installed/usr")"
 holds "its README is the one that is kept" cmp "$room/unpacked/$archive/README" docs/archive.txt
-# what nobody has who has a package alone
+# what nobody has who has only a package
 of_repository='\bmake (all|lib|page|dist|test|install|build)|repository|(crates|tests|tools|web|bench)/'
 holds "its pages speak of nothing that only the repository has" refuses grep -rnE "$of_repository" "$room/unpacked/$archive"/{README,share}
 holds "the program of the archive runs" test "$("$room/unpacked/$archive/bin/nissy" invert "R U' F2")" = "F2 U R'"
@@ -79,14 +79,14 @@ else
     holds "its page speaks of nothing that only the repository has" refuses grep -nE "$of_repository" \
         "$room"/venv/lib/python3*/site-packages/nissy-*.dist-info/METADATA
     # shellcheck disable=SC2016 # the backticks are the page's
-    prints_page() { # each line that its page has behind a call
+    prints_page() { # each line that its page has after a call
         sed -n '/^```python$/,/^```$/p' "$room"/venv/lib/python3*/site-packages/nissy-*.dist-info/METADATA | sed '/^```/d' > "$room/page.py" &&
             sed -n 's/^print.*  # //p' "$room/page.py" > "$room/wanted" && [ -s "$room/wanted" ] && in_venv "$room/page.py" > "$room/printed" &&
             diff "$room/wanted" <(grep -xFf "$room/wanted" "$room/printed")
     }
     holds "the example of its page prints what the page says" prints_page
     says() { grep -qxF "$1" "$room"/venv/lib/python3*/site-packages/nissy-*.dist-info/WHEEL; }
-    holds "it isn't of Python alone" says "Root-Is-Purelib: false"
+    holds "it isn't only of Python" says "Root-Is-Purelib: false"
     for platform in manylinux_2_17 manylinux2014; do holds "it is for $platform" says "Tag: py3-none-${platform}_x86_64"; done
     holds "its module finds the library beside it" test "$(in_venv -c 'import nissy; print(nissy.invert("R U"), nissy.__version__)')" = "U' R' $version"
     holds "and prints the best ways on" test "$(in_venv -m nissy "R U F" --most 1 | cut -d , -f 1)" = "2 moves: eofb F"
@@ -142,7 +142,7 @@ if [ ! -e "$release" ]; then skips "the archive in C, which wasn't made"; elif m
     for tool in c-archive sdist; do holds "tools/$tool without nissy.c says what makes it" needs_file $tool; done
 fi
 
-# the Python package in C, in an environment of its own, by pip and a compiler alone
+# the Python package in C, in an environment of its own, only by pip and a compiler
 source_package=$made/nissy-$version.tar.gz
 if [ ! -e "$source_package" ] || missing cc || { [ ! -e "$room/venv" ] && ! /usr/bin/python3 -m venv "$room/venv" > /dev/null 2>&1; }; then
     skips "the Python package in C, which wasn't made, or has no compiler or no environment here"
@@ -270,7 +270,7 @@ if [ -e build/nissy.html ]; then
             [ "$(grep -cvE 'linux-program.tar.gz$' "$room/less/SHA256SUMS")" -eq 1 ]
     }
     holds "a package whose tool isn't here is left out, and named" leaves_out
-    holds "the archive of the program alone is made" tar -C "$room/unpacked" -xpf "$room/less/$archive-program.tar.gz"
+    holds "the archive with only the program is made" tar -C "$room/unpacked" -xpf "$room/less/$archive-program.tar.gz"
     without_library() { sed '/^The library needs/,$d' docs/archive.txt; }
     holds "its README says nothing of the library" cmp "$room/unpacked/$archive-program/README" <(without_library)
     holds "it has nothing of the library" test "$(stands_in "$room/unpacked/$archive-program")" = \

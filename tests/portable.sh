@@ -55,7 +55,7 @@ each "for Windows" windows x86_64-w64-mingw32-gcc "${strict[@]}"
 each "for 32 bits" i686 i686-linux-gnu-gcc "${strict[@]}" -static
 each "for ARM" aarch64 aarch64-linux-gnu-gcc "${strict[@]}" -static
 each "for s390x, of the other byte order" s390x s390x-linux-gnu-gcc "${strict[@]}" -static
-# lines alone for the debugger: with all of -g the sanitizers take the compiler twice as long
+# only lines for the debugger: with all of -g the sanitizers take the compiler twice as long
 sanitized=(-std=c11 -O1 -g1 "-fsanitize=address,undefined" -fno-sanitize-recover=all)
 each "with the sanitizers" sanitized gcc "${sanitized[@]}"
 each "with the sanitizer for threads" raced gcc -std=c11 -O1 -g1 -fsanitize=thread

@@ -35,7 +35,7 @@ class Change:
         return found[0]
 
     def made_in(self, text: str) -> str:
-        """Returns the text with this change made. No line of it moves: new lines beyond the old ones stand behind the last of these."""
+        """Returns the text with this change made. No line of it moves: new lines beyond the old ones stand after the last of these."""
         lines = text.split("\n")
         first, count = self.first_line(lines), len(self.old)
         new = [*self.new[: count - 1], " ".join(self.new[count - 1 :])]
@@ -124,7 +124,7 @@ class WrongBody:
         return {self.refused, *(f"{file}:{span.first}" for file, span, _ in self.turned() if span)}
 
     def touched(self) -> set[str] | None:
-        """Returns its functions, or nothing where it turns more than their bodies, as a constant, a type or a contract, which others can see."""
+        """Returns its functions, or nothing if it turns more than their bodies, as a constant, a type or a contract, which others can see."""
         return self.functions() if all(is_body for _, _, is_body in self.turned()) else None
 
 
@@ -159,7 +159,7 @@ def read_body(crate: str, file: str, lines: list[str]) -> WrongBody:
         elif line.startswith("file: ") and body.refused:
             file, parted = line.removeprefix("file: "), True
         elif sign == "-" and body.refused:
-            # old lines behind new ones, or behind an empty line, are another change
+            # old lines after new ones, or after an empty line, are another change
             if parted or body.changes[-1].new:
                 body.changes.append(Change(file))
             body.changes[-1].old.append(text)

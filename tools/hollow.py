@@ -1,4 +1,4 @@
-"""Takes bodies away from a copy of a crate, so that a check of some functions proves nothing else: callers see a contract alone."""
+"""Takes bodies away from a copy of a crate, so that a check of some functions proves nothing else: callers see only a contract."""
 
 import os
 import re
@@ -31,7 +31,7 @@ class Function:
 
 
 def after_list(text: str) -> str:
-    """Returns what stands behind the list in angle brackets with which a text begins, if it does."""
+    """Returns what stands after the list in angle brackets with which a text begins, if it does."""
     depth = 0
     for at, sign in enumerate(text):
         depth += (sign == "<") - (sign == ">")
@@ -135,7 +135,7 @@ def add_the_hole(folder: str) -> None:
 
 
 def leave_a_hole(folder: str, path: list[str]) -> None:
-    """Leaves the hole in the place of a function's proof, or of its cycle's, where it calls itself."""
+    """Leaves the hole in the place of a function's proof, or of its cycle's, if it calls itself."""
     crate, *owner, name = path
     of_owner = "/".join([folder, "proofs", *owner])
     for proof in (name, f"+{name}"):

@@ -1,4 +1,4 @@
-// What the scripts of web/module that run in node alone make use of there, so that their types are checked without those of node.
+// What the scripts of web/module that run only in node make use of there, so that their types are checked without those of node.
 declare module "node:fs" {
   export function readFileSync(file: URL): Uint8Array;
   export function readSync(stream: number, buffer: Uint8Array, offset: number, length: number, position: null): number;

@@ -50,6 +50,6 @@ TARGETS = {"x86_64": X86_64, "aarch64": AARCH64}
 
 
 def run(*words: str) -> None:
-    """Runs a command, and ends this one where it fails."""
+    """Runs a command, and ends this one if it fails."""
     if subprocess.run(words, check=False).returncode:
         sys.exit(f"{sys.argv[0]}: {words[0]} failed")

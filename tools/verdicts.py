@@ -79,9 +79,9 @@ def verdict(body: WrongBody, said: str) -> str:
     notes = notes_of(body, said)
     if any(not NAME_IS_GONE.search(it) for it in errors):
         return REFUSED
-    # beside errors on names a note tells of a goal that is closed without an answer, where no goal has another name and the search came to its end
+    # beside errors on names a note tells of a goal that is closed without an answer, if no goal has another name and the search came to its end
     if errors and (any(GOAL_IS_GONE.search(it) for it in errors) or not any("gave up" not in it for it in notes)):
-        return f"by a name alone: {errors[0]}"
+        return f"only by a name: {errors[0]}"
     if "did not prove `" in line[1] or notes:
         return REFUSED
     if stands_on_a_false_lemma(body, line[1], said):

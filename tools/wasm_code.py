@@ -10,7 +10,7 @@ BRANCH, BRANCH_IF, BRANCH_TABLE, RETURN, CALL = 0x0C, 0x0D, 0x0E, 0x0F, 0x10
 DROP, SELECT = 0x1A, 0x1B
 LOCAL_GET, LOCAL_SET, LOCAL_TEE, GLOBAL_GET, GLOBAL_SET = 0x20, 0x21, 0x22, 0x23, 0x24
 I32_CONSTANT, I64_CONSTANT = 0x41, 0x42
-# the instructions behind this byte have a number of their own
+# the instructions after this byte have a number of their own
 BULK = 0xFC
 COPY, FILL = 0xFC0A, 0xFC0B
 NO_RESULT = 0x40
@@ -68,7 +68,7 @@ class Instruction:
 
 @dataclass(frozen=True)
 class Code:
-    """The code of a function: the kinds of its locals behind the parameters, and its instructions."""
+    """The code of a function: the kinds of its locals after the parameters, and its instructions."""
 
     locals: tuple[int, ...]
     instructions: tuple[Instruction, ...]

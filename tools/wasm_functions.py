@@ -105,7 +105,7 @@ class Function:
 
     def keep(self, changes: Callable[[Value], bool]) -> None:
         """Gives a name to each value that what comes now changes. One that nothing changes keeps its text: a name given within a block would be
-        unknown behind it."""
+        unknown after it."""
         for at, value in enumerate(self.stack):
             if not value.is_plain() and changes(value):
                 name = f"t{self.new()}"
@@ -125,7 +125,7 @@ class Function:
     def write(self, it: Instruction) -> None:
         """Writes one instruction."""
         if not self.labels:
-            raise Refused("instructions behind the end")
+            raise Refused("instructions after the end")
         if self.is_dead and not self.ends_dead(it):
             return
         if it.code in WRITERS:

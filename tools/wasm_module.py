@@ -41,7 +41,7 @@ class Reader:
         return self.data[self.at - count : self.at]
 
     def part(self) -> "Reader":
-        """Returns a reader of the bytes that a length stands before, and goes behind them."""
+        """Returns a reader of the bytes that a length stands before, and goes on after them."""
         size = self.unsigned()
         begin = self.at
         self.at += size

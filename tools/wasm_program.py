@@ -170,7 +170,7 @@ class Program:
         return f"POINTER({at - self.begin})"
 
     def text(self, calls: str = "") -> str:
-        """Returns the functions, with the memory and the numbers that they and the calls behind them are made of."""
+        """Returns the functions, with the memory and the numbers that they and the calls after them are made of."""
         lines = [f"{function.head()};" for function in self.functions.values()] + [""]
         for index, function in self.functions.items():
             name = self.module.names.get(index, "")

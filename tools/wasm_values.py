@@ -56,7 +56,7 @@ COMPARISON = {
 COUNT = {first + at: (name, kind) for first, kind in ((0x67, I32), (0x79, I64)) for at, name in enumerate(COUNTS)}
 IS_ZERO = {0x45: I32, 0x50: I64}
 WRAP, EXTEND_SIGNED, EXTEND_UNSIGNED = 0xA7, 0xAC, 0xAD
-# a number whose lowest bits alone count, with their sign: its kind and how many
+# a number of which only the lowest bits count, with their sign: its kind and how many
 EXTEND = {0xC0: (I32, 8), 0xC1: (I32, 16), 0xC2: (I64, 8), 0xC3: (I64, 16), 0xC4: (I64, 32)}
 # kind, bytes, and whether their sign counts
 LOAD = {

@@ -1,5 +1,5 @@
 /* What a program or library that the kit compiled for aarch64 asks of C for memory, as the kit's declarations say (rattle_alloc and its
- * neighbours in its crate libc): the kit has this part as C for x86-64 alone. */
+ * neighbours in its crate libc): the kit has this part as C only for x86-64. */
 #include <stdbool.h>
 #include <stddef.h>
 #include <stdlib.h>

@@ -189,10 +189,10 @@ class Reader:
         # a group's other lines are between the steps of the groups before it and after it
         ends = [*(lines[0] for _, lines in groups[1:]), end]
         is_said = self._kinds.find(_NOTE, begin, end) >= 0 or self._are_labelled.find(1, begin, end) >= 0
-        for (group, own), behind in zip(groups, ends):
+        for (group, own), after in zip(groups, ends):
             if group > 0:
                 every, solution = made if own == told else self._joined(own)
-                said = self._said_of(group, begin, behind) if is_said else ""
+                said = self._said_of(group, begin, after) if is_said else ""
                 yield value_of(AttemptCandidate, (every, solution, said))
             begin = own[-1]
 

@@ -130,7 +130,7 @@ class Written:
         """Returns where each line begins."""
         ends = accumulate(map(len, self.data.splitlines(keepends=True)))
         begins = [0, *self.each_at(ends)]
-        # at the end of the text a line begins only behind another's end
+        # at the end of the text a line begins only after another's end
         return begins if not self.data or self.data[-1] in b"\r\n" else begins[:-1]
 
     def place_of_byte(self, byte: int) -> TextPlace:

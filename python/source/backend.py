@@ -1,4 +1,4 @@
-"""Builds the package by Python and a C compiler alone: pip needs nothing else for it, neither a network nor setuptools.
+"""Builds the package only by Python and a C compiler: pip needs nothing else for it, neither a network nor setuptools.
 
 The compiler is the first of these that compiles engine/nissy.c: $CC, the one by which this Python was built, cc, gcc, clang, and on Windows cl.
 It takes $CFLAGS too, and on macOS $ARCHFLAGS."""
@@ -41,7 +41,7 @@ def stem() -> str:
 
 
 def metadata() -> bytes:
-    """Returns what a package says of itself: its fields, and README behind an empty line."""
+    """Returns what a package says of itself: its fields, and README after an empty line."""
     said = project()
     classifiers = re.findall(r'^ {4}"(.*)",$', read("pyproject.toml").decode(), re.MULTILINE)
     fields = [

@@ -141,7 +141,7 @@ def changed(tally: Tally, browser: Browser) -> None:
 
 
 def line_ends(tally: Tally, browser: Browser) -> None:
-    """Line ends in an address are blanks, as they are in the field: nothing behind them is left out, and a fault is on one line."""
+    """Line ends in an address are blanks, as they are in the field: nothing after them is left out, and a fault is on one line."""
     for end in ("%0A", "%0D", "%0D%0A", "_%0A%0A_"):
         browser.go(f"#scramble=R{end}U{end}F2{end}&steps=inverse.D")
         is_shown(tally, browser, f"{end}: the nets", "R U F2", "", "D")
@@ -149,7 +149,7 @@ def line_ends(tally: Tally, browser: Browser) -> None:
         text = "R" + re.sub("%0[AD]|_", " ", end) + "q"
         tally.holds(f"{end}: the program has a fault there too", fault(text).endswith("not a move"))
         looks = {"#scramble-fault p": ["\u201cq\u201d is no move."], "#scramble-fault mark": ["q"]}
-        browser.walk(tally, "a fault behind it", ("go", f"#scramble=R{end}q", looks))
+        browser.walk(tally, "a fault after it", ("go", f"#scramble=R{end}q", looks))
 
 
 def longest(tally: Tally, browser: Browser) -> None:

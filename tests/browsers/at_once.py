@@ -53,7 +53,7 @@ def ahead(tally: Tally, browser: Browser) -> None:
     browser.script("window.asked.length = 0")
     browser.act("#solutions-groups .take")
     counted = "return window.asked.filter((each) => each.startsWith('count')).length"
-    tally.holds("a step asks for the counts behind it", browser.until(f"{counted} >= 4"))
+    tally.holds("a step asks for the counts after it", browser.until(f"{counted} >= 4"))
     browser.wait_best()
     asked = [each for each in browser.script("return window.asked") if each.startswith("count")]
     tally.equal(
@@ -77,7 +77,7 @@ def best_of_many(tally: Tally, browser: Browser) -> None:
     tally.holds(f"there are more than are kept: {kept} of {every}", kept == CUT < every)
     browser.script("part('best-options').open = true")
     tally.holds(
-        "so do the chips of cases, which count these alone",
+        "so do the chips of cases, which count only these",
         browser.comes("best-cases-name", f"Case before DR, of the best {CUT}"),
     )
     browser.script("part('best-options').open = false")
@@ -93,7 +93,7 @@ def best_of_many(tally: Tally, browser: Browser) -> None:
 
 def more(tally: Tally, browser: Browser) -> None:
     """
-    Each row of a list can be reached without a filter, also by Back, which marks it, for this scramble alone; the rows that stood there stay as they are,
+    Each row of a list can be reached without a filter, also by Back, which marks it, only for this scramble; the rows that stood there stay as they are,
     and what is selected.
     """
     marked = (

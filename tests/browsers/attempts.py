@@ -189,7 +189,7 @@ def answers_each_line(tally: Tally, browser: Browser) -> None:
 
 
 def chooses(tally: Tally, browser: Browser) -> None:
-    """Of several attempts the first is read, and the others go onto the desk: each is read there as if it alone had been pasted; so does Back."""
+    """Of several attempts the first is read, and the others go onto the desk: each is read there as if only it had been pasted; so does Back."""
     first = {"scramble=": "R U F", "bracketed": "D", KEPT: ["L2"], SHOWN: ["1 \u26051"]}
     second = {"scramble=": "F' L2 U", "bracketed": "", "kept": 0, SHOWN: ["2"]}
     for width in (1280, 360):
@@ -255,7 +255,7 @@ def joins(tally: Tally, browser: Browser) -> None:
     )
     browser.walk(
         tally,
-        "candidates alone leave the line",
+        "only candidates leave the line",
         ("script", PASTE, "R U F\n\nD2\n\nR2\n", {}),
         ("comes", KEPT, ["L2", "B", "U", "D2", "R2"], {"bracketed": "F2"}),
     )

@@ -125,7 +125,7 @@ def filters_orientations(tally: Tally, browser: Browser, rows: list[tuple[str, .
 
 
 def filters_reductions(tally: Tally, browser: Browser, count: int) -> None:
-    """The best reductions are filtered by the case of their trigger alone; a filter of another cube is gone."""
+    """The best reductions are filtered only by the case of their trigger; a filter of another cube is gone."""
     tally.equal("axes and sides aren't filtered by", browser.script(SHOWN_FILTERS), False)
     browser.script("part('best-options').open = true")
     tally.holds("chips come", browser.until("return all('#best-cases-chips button').length > 1"))

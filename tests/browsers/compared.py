@@ -77,7 +77,7 @@ def beside_each_other(tally: Tally, browser: Browser) -> None:
         tally.equal(f"{made}: all moves", told["total"], f"{at.in_all()} move{'' if at.in_all() == 1 else 's'}")
         steps = [[" ".join(step.split()[:2]), *counts] for step, *counts in told["steps"]]
         tally.equal(f"{made}: what follows on each side", steps, steps_of(at))
-        tally.equal(f"{made}: nothing is marked after a reduction alone", any(told["bad"]), made != DR)
+        tally.equal(f"{made}: nothing is marked only after a reduction", any(told["bad"]), made != DR)
     inverted = program_answers(browser.program, ["invert"], [EO[1]])[0]
     way = ways(f"0 ; {inverted} {LONGER} ; ; {EO[1]}")[0]
     tally.equal(

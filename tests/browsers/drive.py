@@ -48,6 +48,15 @@ def trials(part: str) -> list[Callable[[Tally, Browser], None]]:
     return [each for each in own if list(signature(each).parameters) == ["tally", "browser"]]
 
 
+def try_part(tally: Tally, browser: Browser, part: str) -> None:
+    """The functions of a part, up to one that the page stops."""
+    try:
+        for each in trials(part):
+            each(tally, browser)
+    except (TimeoutError, LookupError, TypeError, ValueError) as stop:
+        tally.holds(f"{part} goes to its end: {str(stop).splitlines()[0]}", False)
+
+
 def main() -> None:
     """Each part in a page of its own, with a storage of its own, whose console and requests are looked at in the end."""
     if len(sys.argv) == 1:
@@ -62,11 +71,7 @@ def main() -> None:
         for part in sys.argv[3:] or PARTS:
             browser = Browser(driver, page)
             browser.program, browser.page_without_engine = program, without
-            try:
-                for each in trials(part):
-                    each(tally, browser)
-            except (TimeoutError, LookupError, TypeError, ValueError) as stop:
-                tally.holds(f"{part} goes to its end: {str(stop).splitlines()[0]}", False)
+            try_part(tally, browser, part)
             tally.equal(f"{part}: the console", browser.complaints(), [])
             beyond = [
                 url for url in browser.requests() if not url.startswith((page, without, "blob:", "data:", "about:"))

@@ -139,7 +139,7 @@ def pasted(tally: Tally, browser: Browser) -> None:
         kept = browser.script("return decodeURIComponent(location.hash)").split("=")[1].replace("_", " ").split()
         tally.equal(f"{text!r}: what is kept in the address", kept, line.replace("'", "-").split())
     fault = {"#scramble-fault p": [NO_MOVE.format("q'")], "#scramble-fault mark": ["q"]}
-    browser.walk(tally, "a fault behind what is left out", ("fill", "scramble", "1. R q\u2032", fault))
+    browser.walk(tally, "a fault after what is left out", ("fill", "scramble", "1. R q\u2032", fault))
 
 
 def pasted_steps(tally: Tally, browser: Browser) -> None:

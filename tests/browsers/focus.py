@@ -247,7 +247,7 @@ OPEN = "return document.querySelector('#steps-body .cell').checkVisibility()"
 
 
 def goes_on(tally: Tally, browser: Browser) -> None:
-    """The shortest are marked of steps that keep what is reached alone; the others are said to begin anew. After a DR, which all of them give up, they are folded,
+    """The shortest are marked only of steps that keep what is reached; the others are said to begin anew. After a DR, which all of them give up, they are folded,
     until a list of one is open; the fold stays as it is while the line is gone on with."""
     least = "return [...new Set(all('#steps-body .least').map((each) => each.dataset.cell.slice(0, 2)))]"
     ways: tuple[tuple[str, list[str], list[str]], ...] = (

@@ -160,7 +160,7 @@ def keeps_reductions(tally: Tally, browser: Browser) -> None:
     )
     browser.script("document.querySelectorAll('#best-body .star')[arguments[0]].click()", one)
     browser.until(KEPT_SAID)
-    tally.equal("the star is of the row alone", browser.script(stars), [at == one for at in range(len(rows))])
+    tally.equal("the star is only of the row", browser.script(stars), [at == one for at in range(len(rows))])
     named = browser.script("return document.querySelectorAll('#best-body .star')[arguments[0]].ariaLabel", one)
     tally.holds(f"and says so: {named}", named.endswith(f", {reduction} {case}"))
     tally.equal(

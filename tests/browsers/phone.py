@@ -23,7 +23,7 @@ TEXT = "R U F\nR // EO"
 
 
 def tap(browser: Browser, selector: str) -> bool:
-    """A finger on the middle of what a selector finds, where that is seen."""
+    """A finger on the middle of what a selector finds, if that is seen."""
     x, y = browser.script(MIDDLE, selector)
     browser.command("Input.dispatchTouchEvent", type="touchStart", touchPoints=[{"x": x, "y": y}])
     browser.command("Input.dispatchTouchEvent", type="touchEnd", touchPoints=[])
@@ -216,7 +216,7 @@ def is_whole(tally: Tally, browser: Browser) -> None:
 
 
 def is_even(tally: Tally, browser: Browser) -> None:
-    """What belongs together has one height or one line, a button is as wide as its words, one alone undoes, and only a trigger is bold."""
+    """What belongs together has one height or one line, a button is as wide as its words, only one undoes, and only a trigger is bold."""
     tops = """const baseline = (each) => {
             const at = Object.assign(document.createElement('span'), { style: 'display: inline-block' });
             each.prepend(at);

@@ -5,7 +5,7 @@ from tally import Tally
 
 KEPT = "kept lines"
 MEAN = "1. R U F\n2. F' L2 U\n3. B2 R D\n"
-# of a session that is pasted the browser has the text at the event alone
+# of a session that is pasted the browser has the text only at the event
 PASTE_ALL = """const field = part('scramble'), clipboardData = new DataTransfer();
     clipboardData.setData('text/plain', arguments[0]);
     field.focus();

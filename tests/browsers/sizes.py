@@ -16,7 +16,7 @@ STATES = (
     ("a DR", SCRAMBLE + "&steps=inverse.B_D_R_F2_B_D~normal.R_B-~normal.D2_R"),
 )
 # what is beyond the window, cut, or on something else: the text of each line, by its middle, since the heights of lines may meet; a line
-# that shows its end alone is meant to be cut
+# that shows only its end is meant to be cut
 BROKEN = """
     const seen = (node) => node.checkVisibility({ visibilityProperty: true })
         && !node.closest(".unseen, .skip, pre, [popover], option");

@@ -90,7 +90,7 @@ def fences(tally: Tally, pages: list[Page]) -> None:
 
 
 def readme(tally: Tally, page: Page) -> None:
-    """README has links, is short, and names the logic of the kit that is here, where one is."""
+    """README has links, is short, and names the logic of the kit that is here, if one is."""
     tally.holds("README.md has links", page.links())
     tally.holds(f"README.md has at most {MOST_LINES} lines", len(page.lines) <= MOST_LINES)
     if shutil.which("rt"):
@@ -142,7 +142,9 @@ def files_that_are_named(tally: Tally, code: Code) -> None:
 
 def lengths(tally: Tally, code: Code) -> None:
     """No file of code is too long to be read at once, nor a line of a script or of the package in Python; a script steps in by two blanks."""
-    counted = {path: text.splitlines() for path, text in code.files.items() if path.endswith(OF_CODE)}
+    counted = {
+        path: text.splitlines() for path, text in code.files.items() if path.endswith(OF_CODE) or text[:2] == "#!"
+    }
     tally.holds("there is code", counted)
     for path, lines in counted.items():
         tally.holds(f"{path} has at most {MOST_LINES_OF_CODE} lines: {len(lines)}", len(lines) <= MOST_LINES_OF_CODE)
@@ -308,7 +310,7 @@ def examples(tally: Tally) -> None:
 
 
 def main() -> None:
-    """All checks, or the maps alone."""
+    """All checks, or only the maps."""
     code = Code(TOP)
     unlike = (
         map_of_crates(code)

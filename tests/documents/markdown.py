@@ -25,7 +25,7 @@ class Page:
         return {re.sub(r"[^a-z0-9_-]", "", head.replace(" ", "-")) for head in heads}
 
     def leads_somewhere(self, link: str) -> bool:
-        """Whether a link of this page leads to a file and, where it names one, to a heading there."""
+        """Whether a link of this page leads to a file and, if it names one, to a heading there."""
         file, _, anchor = link.partition("#")
         path = (self.top / self.name).parent / file if file else self.top / self.name
         if not path.exists():

@@ -5,7 +5,7 @@
 
 A block ```sh is run, and where the next block is ```text, that is what it prints (else nothing). In a block ```console each line that begins
 with `$ ` is run, and the lines after it are what it prints. The blocks of a page run one after another in one shell, so that variables and
-files stay; the whole page is run by each of sh, bash and zsh that is there. A block ```bash, ```zsh or ```fish runs by that shell alone.
+files stay; the whole page is run by each of sh, bash and zsh that is there. A block ```bash, ```zsh or ```fish runs only by that shell.
 They find the repository's folder `examples` beside them.
 A block of a kind of SCRIPTS is a script or a program of its own, which is run in an empty folder, if the module, as a package for npm, or the
 library that it asks is built. A block that takes a tool of TOOLS, or the library, is skipped if that isn't here, and named. So are

@@ -117,7 +117,7 @@ class Code:
         return {named[2] for line in lines if (named := NAMED.fullmatch(line))}
 
     def exported(self, crate: str) -> set[str]:
-        """Returns the functions that a crate exports, but its laws, each behind the name of its type or of its file."""
+        """Returns the functions that a crate exports, but its laws, each after the name of its type or of its file."""
         used = re.findall(
             r"^pub use (?!niss_)[\w:]+::(\w+|\{[^}]*\});", self.texts[f"crates/{crate}/src/lib.rt"], re.MULTILINE
         )
@@ -145,7 +145,3 @@ class Code:
     def libraries(self) -> list[str]:
         """Returns the crates that have definitions."""
         return sorted(path.parent.name for path in self.top.glob("crates/*/specs"))
-
-    def stems(self, folder: str, ending: str) -> set[str]:
-        """Returns the names of files below a folder, without folders and ending."""
-        return {path.stem for path in (self.top / folder).rglob(f"*{ending}")}

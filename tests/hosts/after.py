@@ -32,7 +32,7 @@ ROWS = [
     # so is the scramble with what stands outside
     ("R U F", "F", "R U F2"),
     ("R U F", "F' U' (R)", ""),
-    # that of a scramble is undone behind it, as a line has it
+    # that of a scramble is undone after it, as a line has it
     ("U (R)", "F", "U R' F"),
     ("(R) U", "F (D)", "U D' R' F"),
     # after x the face F is called U, and stays it for what is made on the inverse

@@ -1,6 +1,6 @@
 #!/usr/bin/env python3
 """Drawn questions to `best`: what Python and each host answer beside C's own calls, byte for byte; the rows beside the independent model, which knows
-the definition alone; and whether rows go on as they say.
+only the definition; and whether rows go on as they say.
 
     tests/hosts/best.py SEED COUNT SLACK MODEL COUNTED HOST..
 

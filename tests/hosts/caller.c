@@ -77,7 +77,7 @@ static void say_place(text of, uint64_t place) {
     say_text("@"), say_number(line), say_text(":"), say_number(column);
 }
 
-/* The place of a byte of a line, or that behind its last sign. */
+/* The place of a byte of a line, or that after its last sign. */
 static uint64_t place_of(text of, const written *line, uint64_t at) {
     if (at < line->length) return line->places[at];
     uint64_t end = line->length ? line->places[line->length - 1] + 1 : 0;

@@ -19,7 +19,7 @@ std::string to_hex(std::string_view text) {
     return hex;
 }
 
-// A text in memory of its own, of which nothing stands behind it, and none of it if it is empty.
+// A text in memory of its own, of which nothing stands after it, and none of it if it is empty.
 class exact {
 public:
     explicit exact(const std::string &hex) : size_(hex.size() / 2), bytes_(size_ ? new char[size_] : nullptr) {

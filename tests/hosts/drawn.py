@@ -39,7 +39,7 @@ NUMBERS = [(0, 0), (3, 0), (20, 0), (2, 1), (3, 2), (3, 20)]
 LINES_OF = {"text": [1], "fault": [0], "forms": [0], "facts": [0], "check": [0, 1], "tokens": [0]}
 # what a system might take for the end of a line or of a file
 OF_SYSTEMS = [b"R\r\nU\r\n", b"R\x1aU\n", b"\x1a", b"U\r", b"\xef\xbb\xbfR\n"]
-# after these alone several steps hold, or all
+# only after these several steps hold, or all
 HALF_TURNS: list[Move] = [(face, 2) for face in "UDRLFB"]
 ORDER = model.run(["steps"])[0].decode().split()
 # of facts how many steps hold, and of checks whether they solve
@@ -243,6 +243,13 @@ def drawn_line(draw: Drawing) -> bytes:
     return draw.damaged(line.encode()) if draw.random() < 0.15 else line.encode()
 
 
+def came_of(call: str, wanted: str) -> str:
+    """What came of facts or a check without a fault, as it is counted."""
+    if call == "facts":
+        return "facts, %d steps" % len(wanted.split(" ")[3].replace(",", " ").split())
+    return "check, solved" if wanted[0] == "1" else "check, unsolved"
+
+
 def judged(trial: BesideHosts, draw: Drawing, count: int) -> None:
     """Calls that the program has no command for, on the lines that are listed and on drawn ones."""
     last = b""
@@ -253,13 +260,10 @@ def judged(trial: BesideHosts, draw: Drawing, count: int) -> None:
         asked = [(call, [line]) for call in ("facts", "tokens", "form_places")]
         for call, lines in [*asked, ("check", [last, line]), ("check", [last, undone])]:
             wanted = of_model(call, lines)
-            if call == "facts" and not wanted.startswith("fault"):
-                trial.counts["facts, %d steps" % len(wanted.split(" ")[3].replace(",", " ").split())] += 1
-            if call == "check" and not wanted.startswith("fault"):
-                trial.counts["check, solved" if wanted[0] == "1" else "check, unsolved"] += 1
-            for host in trial.hosts:
-                if host.has_calls:
-                    trial.check(f"{host.name}: {call}", [call], b"\n".join(lines), told(host, call, *lines), wanted)
+            if call in ("facts", "check") and not wanted.startswith("fault"):
+                trial.counts[came_of(call, wanted)] += 1
+            for host in (it for it in trial.hosts if it.has_calls):
+                trial.check(f"{host.name}: {call}", [call], b"\n".join(lines), told(host, call, *lines), wanted)
         last = line
 
 

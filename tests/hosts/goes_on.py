@@ -38,7 +38,7 @@ def pieces(moves: Moves, step: str) -> Tuple[int, int]:
 
 
 def as_held(scramble: Moves, outside: Moves, inside: Moves) -> Moves:
-    """The cube on which steps are judged: with the inverse of what stands in brackets before the scramble in place of behind all, and by the
+    """The cube on which steps are judged: with the inverse of what stands in brackets before the scramble, and not after all, and by the
     same faces, which are those of a cube as the moves outside leave it."""
     turned = to_faces(scramble + outside)[1]
     before = to_faces(turned + inverse_of(inside))[0]

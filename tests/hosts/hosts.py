@@ -1,7 +1,7 @@
 """The hosts of the engine, which are asked by the same calls: Python, callers in C++ and in JavaScript, and other programs.
 
 A call is a name and what is given to it, bytes for a text, else a number or a word. A caller reads it from a line, with blanks between, texts as
-hexadecimal digits behind an `=`, and answers a line: its text so; before that of a fault stand which of two lines has it, or 0, and its column,
+hexadecimal digits after an `=`, and answers a line: its text so; before that of a fault stand which of two lines has it, or 0, and its column,
 or 0. A search that is cut answers as a fault of that text; what `best` found until then, if that is wanted, has it as a last line. `text` answers
 what `plain_line`, `check_attempts`, `attempt_doubts`, `read_attempts` and `known_checks` tell of one text, parted by PARTED.
 """

@@ -132,6 +132,15 @@ def parts(answer: str) -> List[str]:
     return told_by(answer).decode().split(PARTED)
 
 
+def compare(tally: Tally, host: Caller, texts: List[str], told: List[str], of_first: List[str]) -> None:
+    """What a host tells of texts, beside what the first one does."""
+    for text, got, wanted in zip(texts, told, of_first):
+        # what C tells ends after its last part
+        same = got == wanted or (host.name == "C" and wanted.startswith(got.rstrip()))
+        # one line for all that hold
+        tally.holds("" if same else f"{text!r} in {host.name}: {parts(got)!r} for {parts(wanted)!r}", same)
+
+
 def main() -> None:
     """Each text, by each host."""
     tally, (seed, count) = Tally(), map(int, sys.argv[1:3])
@@ -150,11 +159,7 @@ def main() -> None:
             for wanted in of_first:
                 seen.update(line.partition("@")[0] for line in parts(wanted)[DOUBTS].split("\n"))
             for host, told in zip(hosts[1:], of_others):
-                for text, got, wanted in zip(portion, told, of_first):
-                    # what C tells ends behind its last part
-                    same = got == wanted or (host.name == "C" and wanted.startswith(got.rstrip()))
-                    # one line for all that hold
-                    tally.holds("" if same else f"{text!r} in {host.name}: {parts(got)!r} for {parts(wanted)!r}", same)
+                compare(tally, host, portion, told, of_first)
     tally.holds(f"each kind of doubt is there: {seen}", count < 10_000 or len(seen) == 10)
     for host in hosts:
         tally.equal(f"{host.name} ends, and has said no more", host.end(), 0)

@@ -1,4 +1,4 @@
-"""Questions to `best` by the calls of C alone, and by the independent model of tests/model/ways.cpp, which knows the definition alone."""
+"""Questions to `best` only by the calls of C, and by the independent model of tests/model/ways.cpp, which knows only the definition."""
 from __future__ import annotations
 
 import ctypes

@@ -1,4 +1,4 @@
-/* Buffers for drawn calls: slices of areas before and behind which no memory is, with bytes beside them that must stay as they are. It is linked
+/* Buffers for drawn calls: slices of areas before and after which no memory is, with bytes beside them that must stay as they are. It is linked
    with --wrap for malloc, realloc and free. */
 #ifndef AREAS_H
 #define AREAS_H
@@ -24,7 +24,7 @@ static void on_fault(int number) {
     _exit(write(STDOUT_FILENO, draw_name, strlen(draw_name)) < 0 || write(STDOUT_FILENO, what, strlen(what)) < 0 ? 2 : 1);
 }
 
-/* A slice of an area: at its front, behind a page that can't be touched, or at its end, before one. */
+/* A slice of an area: at its front, after a page that can't be touched, or at its end, before one. */
 typedef struct slice {
     uint8_t *bytes, *margin;
     size_t size;
@@ -58,7 +58,7 @@ static inline void was_read(slice of, text was) {
 }
 
 static inline void was_written(slice of, size_t size) {
-    is_so(size <= of.size && are_all(of.bytes + size, of.size - size, UNTOUCHED), "behind what is written a buffer is as it was");
+    is_so(size <= of.size && are_all(of.bytes + size, of.size - size, UNTOUCHED), "after what is written a buffer is as it was");
     is_so(are_all(of.margin, MARGIN, UNTOUCHED), "so is what is beside it");
 }
 

@@ -1,4 +1,4 @@
-/* The call that checks the attempts of a text, by hand and on drawn texts, in rooms behind which no memory is, beside the calls on one attempt. */
+/* The call that checks the attempts of a text, by hand and on drawn texts, in rooms after which no memory is, beside the calls on one attempt. */
 #include "texts.h"
 
 /* What is written of the moves of some lines, and what of these the place of a fault of a check is. */

@@ -10,7 +10,7 @@ import itertools
 import sys
 import threading
 from pathlib import Path
-from typing import Any, Callable, Iterator, List, Tuple, Type
+from typing import Any, Callable, Iterator, List, Sequence, Tuple, Type
 
 TOP = Path(__file__).resolve().parents[2]
 sys.path[:0] = [str(TOP / "python"), str(TOP / "tests")]
@@ -127,6 +127,17 @@ def sequences(count: int, turns: List[str]) -> Iterator[Tuple[str, ...]]:
         )
 
 
+def reaches_earlier(step: nissy.Step, line: str, normal: Sequence[str], inverse: Sequence[str]) -> bool:
+    """Whether fewer of the first turns on both sides reach the step already."""
+    begun = (
+        (normal[:at], inverse[:to])
+        for at in range(len(normal) + 1)
+        for to in range(len(inverse) + 1)
+        if at + to < len(normal) + len(inverse)
+    )
+    return any(step in nissy.facts(f"{nissy.invert(' '.join(back))} {line} {' '.join(on)}").holds for on, back in begun)
+
+
 def over_both(step: nissy.Step, line: str, length: int) -> Iterator[str]:
     """The solutions over both sides of so many turns, whose first turns don't reach the step."""
     halves = step[-2:].upper() if "-" in step else ""
@@ -134,18 +145,9 @@ def over_both(step: nissy.Step, line: str, length: int) -> Iterator[str]:
     for count in range(length + 1):
         for inverse in sequences(count, turns):
             found = nissy.solve(step, f"{nissy.invert(' '.join(inverse))} {line}", length - count, 20)
-            for normal in (tuple(it.split()) for it in found if it.length == length - count):
-                begun = (
-                    (normal[:at], inverse[:to])
-                    for at in range(len(normal) + 1)
-                    for to in range(count + 1)
-                    if at + to < length
-                )
-                if not any(
-                    step in nissy.facts(f"{nissy.invert(' '.join(back))} {line} {' '.join(on)}").holds
-                    for on, back in begun
-                ):
-                    yield " ".join([*normal, *([f"({' '.join(inverse)})"] if inverse else [])])
+            pairs = ((tuple(it.split()), inverse) for it in found if it.length == length - count)
+            for normal, _ in (pair for pair in pairs if not reaches_earlier(step, line, *pair)):
+                yield " ".join([*normal, *([f"({' '.join(inverse)})"] if inverse else [])])
 
 
 def sides(tally: Tally) -> None:

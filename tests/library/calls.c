@@ -19,7 +19,7 @@ static const line_row READ[] = {
 #include "texts.inc"
 };
 
-/* Whether a buffer holds the beginning of a text, as much as it has room for, and is as it was behind that. */
+/* Whether a buffer holds the beginning of a text, as much as it has room for, and is as it was after that. */
 static int holds_beginning(guarded buffer, size_t length, const char *text) {
     size_t whole = strlen(text), wanted = whole < buffer.size ? whole : buffer.size;
     return length == wanted && memcmp(buffer.bytes, text, length) == 0 && are_all(buffer.bytes + length, buffer.size - length, UNTOUCHED);
@@ -92,12 +92,12 @@ static nissy_search_answer count_of(const nissy_tables *tables, const search_row
     return nissy_count(tables, (const uint8_t *)row->line, strlen(row->line), row->limit, row->slack, most, most_nodes);
 }
 
-/* What is written is a beginning of the row's text, of whole solutions, and nothing stands behind it. */
+/* What is written is a beginning of the row's text, of whole solutions, and nothing stands after it. */
 static void is_beginning(nissy_search_answer got, guarded out, const search_row *row) {
     size_t feeds = 0;
     for (size_t at = 0; at < got.length; at++) feeds += out.bytes[at] == '\n';
     holds(memcmp(out.bytes, row->text, got.length) == 0 && feeds == got.solutions, "the first of them", row->line);
-    holds(are_all(out.bytes + got.length, out.size - got.length, UNTOUCHED), "nothing is written behind them", row->line);
+    holds(are_all(out.bytes + got.length, out.size - got.length, UNTOUCHED), "nothing is written after them", row->line);
 }
 
 /* A byte of room too few, or one solution fewer at most. */

@@ -22,6 +22,35 @@ from tally import Tally, raised, tried
 COPIES: List[Any] = [copy.copy, copy.deepcopy, lambda it: pickle.loads(pickle.dumps(it))]
 
 
+def as_json(tally: Tally, row: nissy.Continuation) -> None:
+    """Values as JSON writes them by itself."""
+    seen = nissy.facts("R")
+    tally.equal(
+        "facts as JSON",
+        json.dumps([seen.case, seen.bad_edges, seen.moves]),
+        '[{"fb": "4c4e", "rl": "0c0e", "ud": "4c4e"}, {"fb": 0, "rl": 4, "ud": 0}, 1]',
+    )
+    tally.equal(
+        "a count and a check as JSON",
+        json.dumps([nissy.count("eofb", "R U F"), nissy.check("R", "M")]),
+        '[[1, 2, 20, false], [false, 2, 2, ["slices"]]]',
+    )
+    tally.equal(
+        "a row as JSON", list(json.loads(json.dumps(dataclasses.asdict(row)))), ["total", "line", "eo", "dr", "case"]
+    )
+
+
+def copies_raised(tally: Tally, again: Any, value: Any, names_of: str) -> None:
+    """A copy of a fault or a cut, by the names of what it has."""
+    made = again(value)
+    tally.holds("a copy of a fault or a cut is equal", made == value and hash(made) == hash(value))
+    tally.equal(
+        "a fault or a cut",
+        (type(made), str(made), *(getattr(made, name) for name in names_of.split())),
+        (type(value), str(value), *(getattr(value, name) for name in names_of.split())),
+    )
+
+
 def copies(tally: Tally) -> None:
     """What comes to another process, copies, hashes and JSON."""
     fault = raised(nissy.LineFault, lambda: list(nissy.raising(nissy.solve_all("eofb", ["R\u2019 Q"]))))
@@ -52,38 +81,16 @@ def copies(tally: Tally) -> None:
                 (value, type(value), vars(value) if hasattr(value, "__dict__") else 0),
             )
         tally.equal("pieces", again(values[4]).places, ("UR", "DR", "FR", "BR"))
-        for value, names_of in (
-            (fault, "column character text line __notes__"),
-            (start, "step start text line __notes__"),
-            (cut, "count solutions line"),
-        ):
-            made = again(value)
-            tally.holds("a copy of a fault or a cut is equal", made == value and hash(made) == hash(value))
-            tally.equal(
-                "a fault or a cut",
-                (type(made), str(made), *(getattr(made, name) for name in names_of.split())),
-                (type(value), str(value), *(getattr(value, name) for name in names_of.split())),
-            )
+        copies_raised(tally, again, fault, "column character text line __notes__")
+        copies_raised(tally, again, start, "step start text line __notes__")
+        copies_raised(tally, again, cut, "count solutions line")
     tally.equal(
         "equal ones have one hash",
         (len({nissy.facts("R"), nissy.facts("R"), nissy.facts("R'")}), len({row, copy.copy(row)})),
         (1, 1),
     )
     tally.holds("others differ", nissy.facts("R") != nissy.facts("L"))
-    seen = nissy.facts("R")
-    tally.equal(
-        "facts as JSON",
-        json.dumps([seen.case, seen.bad_edges, seen.moves]),
-        '[{"fb": "4c4e", "rl": "0c0e", "ud": "4c4e"}, {"fb": 0, "rl": 4, "ud": 0}, 1]',
-    )
-    tally.equal(
-        "a count and a check as JSON",
-        json.dumps([nissy.count("eofb", "R U F"), nissy.check("R", "M")]),
-        '[[1, 2, 20, false], [false, 2, 2, ["slices"]]]',
-    )
-    tally.equal(
-        "a row as JSON", list(json.loads(json.dumps(dataclasses.asdict(row)))), ["total", "line", "eo", "dr", "case"]
-    )
+    as_json(tally, row)
     dicts(tally)
     dicts_of_faults(tally)
     tally.equal("a row as a string", str(row), f"{row.line} ({row.total})")
@@ -91,7 +98,7 @@ def copies(tally: Tally) -> None:
 
 def dicts(tally: Tally) -> None:
     """What is told of a cube or of a list as a dict, which goes to JSON and comes back as it is."""
-    # R flips four edges on its own axis alone; it twists four corners, and takes two edges out of each slice beside it and two others in
+    # R flips four edges only on its own axis; it twists four corners, and takes two edges out of each slice beside it and two others in
     edges, corners = ["UR", "DR", "FR", "BR"], ["URF", "UBR", "DFR", "DRB"]
     wanted = {
         "solved": False,

@@ -87,7 +87,7 @@ static inline void add_lines(text *to) {
     }
 }
 
-/* A word with the zero byte behind it, which is missing now and then. */
+/* A word with the zero byte after it, which is missing now and then. */
 static void add_word(text *to, const char *word) { add_bytes(to, word, strlen(word) + (draw(60) ? 1 : 0)); }
 
 /* A command with what belongs to it, or with too little or too much; now and then cut. */

@@ -252,8 +252,8 @@ static void try_lines(text lines) {
     is_so(is.status == NISSY_DONE && is.lines == count && is.bytes == taken, "the lines that are taken");
     is_so(told.status == (has_tables ? NISSY_DONE : NISSY_USAGE), "the status of counts");
     is_so(told.lines == (has_tables ? count : 0) && told.bytes == (has_tables ? taken : 0), "the lines that are counted");
-    is_so(are_all((uint8_t *)(facts + is.lines), sizeof facts[0], UNTOUCHED), "behind the facts it is as it was");
-    is_so(are_all((uint8_t *)(counts + told.lines), sizeof counts[0], UNTOUCHED), "behind the counts it is as it was");
+    is_so(are_all((uint8_t *)(facts + is.lines), sizeof facts[0], UNTOUCHED), "after the facts it is as it was");
+    is_so(are_all((uint8_t *)(counts + told.lines), sizeof counts[0], UNTOUCHED), "after the counts it is as it was");
 }
 
 static void try_draw(unsigned long number) {

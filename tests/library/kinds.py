@@ -26,7 +26,7 @@ STEPS = ["F' U R B2 D2", "B R L B2 D B2", "L' D2 B' R2 U2 R2", "F' L2 D2 F' U R"
 OF_FIRST, OF_SECOND = " ".join(STEPS), "F' U R L' U2 B' D2 F2 R2 U' B2 D' L2 F' U R"
 # the last two steps as they are on the inverse
 ON_INVERSE = "R' U' F D2 L2 F R2 U2 R2 B D2 L"
-# words before each of two scrambles, and before a solution behind its steps
+# words before each of two scrambles, and before a solution after its steps
 HEADS = """Solve %d|Day %d:|Week %d|Cube %d|Try %d:|FMC %d:|Mo3 %d:|Scr %d:|Puzzle %d|Versuch %d|Mezcla %d|\u6253\u4e71 %d:|Attempt no. %d
 Group 1 scramble %d|Attempt %d (23 moves)|Attempt %d - 23 moves|Attempt %d, 23 moves|%d. 23 moves|%d. 23|%d) (23)|[%d]|----%d""".replace(
     "\n", "|"

@@ -36,7 +36,7 @@ def ended(count: int, last: Any, taken: Optional[List[str]] = None) -> Iterator[
 
 
 def iterables(tally: Tally) -> None:
-    """Lines come one at a time when they are asked for, and what they raise comes through, behind the answers before it; by threads too."""
+    """Lines come one at a time when they are asked for, and what they raise comes through, after the answers before it; by threads too."""
     taken: List[str] = []
     answers: Any = nissy.solve_all("eofb", ended(10**9, "", taken))
     tally.equal("nothing is taken before it is asked for", taken, [])

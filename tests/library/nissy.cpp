@@ -102,7 +102,7 @@ void columns_are_counted() {
     static constexpr std::size_t PLACES[][2] = {{0, 0}, {1, 1}, {2, 2}, {4, 3}, {7, 4}, {11, 5}, {12, 6}, {13, 7}};
     for (const auto &[column, place] : PLACES)
         holds(nissy::detail::character(TEXT, column) == place, "its place in characters", std::to_string(column).c_str());
-    holds(nissy::detail::character({}, 0) == 0 && nissy::detail::character({}, 1) == 1, "nor behind the end of nothing", "");
+    holds(nissy::detail::character({}, 0) == 0 && nissy::detail::character({}, 1) == 1, "nor after the end of nothing", "");
     static constexpr std::string_view LINES = "R\nU2\xe2\x80\x99 q";
     const auto facts = nissy::facts_all(LINES);
     holds(facts[1].column() == 7 && facts[1].character(LINES.substr(2)) == 5 && facts[0].character(LINES) == 0, "one of many lines", "U2’ q");
@@ -114,7 +114,7 @@ void misuse_is_thrown() {
     for (const char *name : {"htr", "", "EOFB", "eofb "})
         throw_each<std::invalid_argument>(name, {[=] { nissy::tables{name}; }, [=] { nissy::start_of(name); }});
     throw_each<std::invalid_argument>("no name", {[] { nissy::tables{std::string_view()}; }});
-    // of some the last 32 bits alone are in the range
+    // of some only the last 32 bits are in the range
     for (const std::int64_t number : {std::int64_t{-1}, std::int64_t{21}, std::int64_t{256}, std::int64_t{1} << 32, (std::int64_t{1} << 32) + 1,
                                       std::numeric_limits<std::int64_t>::min(), std::numeric_limits<std::int64_t>::max()}) {
         throw_each<std::out_of_range>("a limit", {[&] { tables.solve("F", {number}); }, [&] { tables.count("F", {number}); },
@@ -135,7 +135,7 @@ void misuse_is_thrown() {
                                                         [&] { nissy::check("R", blanks); }, [&] { nissy::facts(blanks); },
                                                         [&] { nissy::best(blanks); }, [&] { nissy::facts_all(blanks)[0].value(); }});
     const auto beside = nissy::facts_all(blanks + "\nR");
-    holds(beside.at(1).value().moves == 1 && beside[0].text() == "line longer than 16777216 bytes", "another line behind them", "16,777,217 blanks");
+    holds(beside.at(1).value().moves == 1 && beside[0].text() == "line longer than 16777216 bytes", "another line after them", "16,777,217 blanks");
 }
 
 // Each line of a text has a value, or throws what the call on it alone throws.

@@ -1,11 +1,11 @@
-/* The rows of searches.h piece by piece, each behind the last solution of the piece before it, in rooms to the byte; sequences that are no
+/* The rows of searches.h piece by piece, each after the last solution of the piece before it, in rooms to the byte; sequences that are no
    solutions, and what can't be one. */
 #include "searches.h"
 
 enum { MOST = 20, LINE = 65 };
 static const char LATE[] = "R R R R R R R R R R R R R R R R R R R R R";
 
-/* A search behind a sequence. */
+/* A search after a sequence. */
 static nissy_search_answer behind(const nissy_tables *tables, const search_row *row, const char *after, size_t size, uint64_t most,
                                   uint64_t most_nodes, guarded out) {
     guarded line = copied(row->line, strlen(row->line)), turns = copied(after, size);
@@ -40,7 +40,7 @@ static void goes_on(const nissy_tables *tables, const search_row *row, const cha
     }
 }
 
-/* All that stands behind the first solution, in pieces, by a search that is cut by each lower bound, and without room. */
+/* All that stands after the first solution, in pieces, by a search that is cut by each lower bound, and without room. */
 static void in_pieces(const nissy_tables *tables, const search_row *row) {
     static const uint64_t SIZES[] = {1, 2, 7, NISSY_ALL};
     size_t first = length_of(row->text, 1), size = strcspn(row->text, "(");
@@ -57,7 +57,7 @@ static void in_pieces(const nissy_tables *tables, const search_row *row) {
         holds(cut.least == row->least || (cut.least == 0 && bound < least_at), "the least length, unless it is cut before that is known", row->line);
         holds(memcmp(out.bytes, row->text + first, cut.length) == 0, "a beginning of them", row->line);
     }
-    /* behind the last of all sequences there is nothing, and the looks of both searches are told */
+    /* after the last of all sequences there is nothing, and the looks of both searches are told */
     uint64_t until_first = nissy_count(tables, (const uint8_t *)row->line, strlen(row->line), row->limit, 0, 0, NISSY_ALL).nodes;
     nissy_search_answer none = behind(tables, row, LATE, strlen(LATE), NISSY_ALL, NISSY_ALL, out);
     holds(none.status == NISSY_DONE && !none.length && none.nodes >= until_first && until_first > 0, "the looks for the least length", row->line);

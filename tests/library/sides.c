@@ -91,7 +91,7 @@ static int is_begun(const char *scramble, int axis, const char *normal, const ch
     return is_oriented(scramble, axis, normal, "") || is_oriented(scramble, axis, "", inverse);
 }
 
-/* Those of `on_normal` and `on_inverse` turns that reach it first, behind `count` others. */
+/* Those of `on_normal` and `on_inverse` turns that reach it first, after `count` others. */
 static int add_pairs(pair_text *out, int count, const char *scramble, int axis, int on_normal, int on_inverse) {
     int shorter = on_normal <= on_inverse ? on_normal : on_inverse, longer = on_normal + on_inverse - shorter;
     for (int head = first_of[shorter]; head < first_of[shorter + 1]; head++)

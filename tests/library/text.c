@@ -1,4 +1,4 @@
-/* The calls that read text as solvers write it, on rows by hand and on drawn texts, in rooms behind which no memory is. What each text is read as,
+/* The calls that read text as solvers write it, on rows by hand and on drawn texts, in rooms after which no memory is. What each text is read as,
    tests/library/kinds.py and tests/hosts say. */
 #include "texts.h"
 
@@ -176,7 +176,7 @@ static void moves_are(const char *text, const nissy_text_line *lines, size_t cou
     holds(got.status == NISSY_DONE && got.length == strlen(line) && memcmp(out.bytes, line, got.length) == 0, "the moves", line);
     holds(memcmp(of.bytes, places, 8 * strlen(line)) == 0, "their places", line);
     holds(got.left_out == left_out, "what they leave out", line);
-    holds(are_all(out.bytes + strlen(line), 3, UNTOUCHED), "what stands behind them", line);
+    holds(are_all(out.bytes + strlen(line), 3, UNTOUCHED), "what stands after them", line);
     if (got.length > 0) {
         guarded small = guard(got.length - 1);
         const nissy_plain_answer few = nissy_text_moves(read.bytes, read.size, lines, count, which, small.bytes, small.size,

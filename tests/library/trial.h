@@ -1,4 +1,4 @@
-/* What the tests of the library share: counts, and buffers behind whose last byte no memory is. */
+/* What the tests of the library share: counts, and buffers after whose last byte no memory is. */
 #ifndef TRIAL_H
 #define TRIAL_H
 
@@ -31,7 +31,7 @@ static inline int ended(void) {
     return passed == 0 || failed != 0;
 }
 
-/* A buffer of so many bytes: a read or a write of the byte before its page or behind its end ends the test by a signal. */
+/* A buffer of so many bytes: a read or a write of the byte before its page or after its end ends the test by a signal. */
 typedef struct guarded {
     uint8_t *bytes;
     size_t size;

@@ -1,5 +1,5 @@
 #!/usr/bin/env python3
-"""The calls of the Python package that return values, by the rows of tests/calls.tsv and a few that Python alone has; what they raise, and of what.
+"""The calls of the Python package that return values, by the rows of tests/calls.tsv and a few that only Python has; what they raise, and of what.
 
     tests/library/values.py
 
@@ -194,7 +194,7 @@ ON_MANY: List[Tuple[Callable[[Any], Any], Callable[[Any], object]]] = [
 
 
 def faults(tally: Tally) -> None:
-    """Lines with a fault: by each call on one line, on two, and on many, where it ends nothing."""
+    """Lines with a fault: by each call on one line, on two, and on many, of which it ends none."""
     for line, *place, text in FAULTS:
         for name, call in ON_A_LINE.items():
             tally.equal(f"{name} of {line!r}", told(raised(nissy.LineFault, lambda: call(line))), (*place, text, None))

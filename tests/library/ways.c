@@ -99,7 +99,7 @@ static void rows_are_the_model_s(void) {
         holds(got.rows <= row->rows && got.tried >= got.rows, "its counts", row->scramble);
         holds(strcmp(text_of(ways, got.rows), row->text) == 0, "its rows", row->scramble);
         holds(are_whole(ways, got.rows), "the turns of each", row->scramble);
-        holds(are_all(room.bytes + got.rows * sizeof(nissy_way), room.size - got.rows * sizeof(nissy_way), UNTOUCHED), "the room behind them",
+        holds(are_all(room.bytes + got.rows * sizeof(nissy_way), room.size - got.rows * sizeof(nissy_way), UNTOUCHED), "the room after them",
               row->scramble);
         let_go(room);
     }

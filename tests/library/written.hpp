@@ -26,7 +26,7 @@ void text_is_read() {
     // what begins a sign and has too few bytes, or more than it needs, is no blank and no letter
     for (const char *text : {"\xc2", "\xe2\x80", "\xc0\xa0", "\xe0\x82\xa0", "\xf0\x80\x82\xa0", "\xed\xa0\x80", "\xf4\x90\x80\x80", "\x80"})
         holds(nissy::plain_line(std::string("R") + text + " R").line == std::string("R") + text + " R", "bytes that aren't UTF-8", text);
-    holds(nissy::plain_line({}).line.empty() && nissy::plain_line(std::string_view("//", 1)).line == "/", "nothing behind its end", "/");
+    holds(nissy::plain_line({}).line.empty() && nissy::plain_line(std::string_view("//", 1)).line == "/", "nothing after its end", "/");
 }
 
 // Where a fault stands in a text: by signs of one byte, two, three and four, by lines that end in each way, and beside what is left out.
@@ -60,7 +60,7 @@ void forms_are_found() {
     const std::vector<nissy::form_place> forms = nissy::form_places(plain.line);
     holds(forms.size() == 3 && nissy::place_of(forms[0], plain, TEXT) == nissy::text_place{6, 2, 1}, "the first form", "U`");
     holds(nissy::place_of(forms.at(2), plain, TEXT) == nissy::text_place{13, 2, 7}, "the last form", "D‘");
-    holds(nissy::place_of(nissy::fault(NISSY_NOT_A_MOVE, 18, ""), plain, TEXT) == nissy::text_place{17, 2, 9}, "behind the last form", "D‘");
+    holds(nissy::place_of(nissy::fault(NISSY_NOT_A_MOVE, 18, ""), plain, TEXT) == nissy::text_place{17, 2, 9}, "after the last form", "D‘");
 }
 
 // The attempts of a text, with places in bytes of the whole text. How they are read, the rows of tests/calls.tsv say.
@@ -120,7 +120,7 @@ void attempts_are_checked() {
     holds(all.size() == 5 && all[4].attempt.name == "5)" && all[4].attempt.scramble.line == "L", "the last one", "5) L");
     holds(!all[4].check && !all[4].fault && !all[4].place && all[4].forms.empty(), "nothing is said without a solution", "5) L");
     is_at_fault(nissy::check_attempts("R \xff U\n\nU").at(0), "scramble", 3, {2, 1, 3}, "a byte that isn't UTF-8");
-    is_at_fault(nissy::check_attempts("1. R // \xff\n\nR2 \xff U").at(0), "solution", 4, {14, 3, 4}, "one behind such a byte");
+    is_at_fault(nissy::check_attempts("1. R // \xff\n\nR2 \xff U").at(0), "solution", 4, {14, 3, 4}, "one after such a byte");
     const std::vector<nissy::attempt_check> empty = nissy::check_attempts({});
     holds(empty.size() == 1 && !empty[0].check && !empty[0].fault && empty[0].forms.empty(), "one that is empty", "no text");
     // valgrind takes half a minute to read so many bytes out of a text, so what is said of them is made here

@@ -1,4 +1,4 @@
-"""Hostile use: system calls refused in turn, by strace. Where there is no strace, or it may not trace, nothing is tried."""
+"""Hostile use: system calls refused in turn, by strace. If there is no strace, or it may not trace, nothing is tried."""
 import ctypes
 import re
 import shutil
@@ -110,7 +110,7 @@ def whole_answer(traced: Traced) -> Answer:
 
 
 def whole_answer_or_no_memory(traced: Traced) -> Answer:
-    """That, or what the run answered, where it is out of memory with nothing read and nothing written."""
+    """That, or what the run answered, if it is out of memory with nothing read and nothing written."""
     has_no_memory = traced.answer == (b"", NO_MEMORY, 3) and not traced.on_stream("read", 0)
     return traced.answer if has_no_memory else whole_answer(traced)
 

@@ -1,4 +1,4 @@
-// The best ways on by their definition alone: each class of orientations over both sides, each reduction after it, all members, all kinds.
+// The best ways on only by their definition: each class of orientations over both sides, each reduction after it, all members, all kinds.
 // It reads questions, one a line, and writes their rows:
 //
 //     slack ; turns that lead to the cube ; clean turns made on the normal side ; clean turns made on the inverse ; rows ; moves in all
@@ -54,7 +54,7 @@ bool first_reaches(const Step &step, const Cube &cube, const Pair &pair) {
 
 enum Kind { NORMAL, INVERSE, BOTH };
 
-// all canonical sequences of some turns on one side, and behind each all of the other side that reach the step with it
+// all canonical sequences of some turns on one side, and after each all of the other side that reach the step with it
 struct Search {
     const Step &step;
     const std::vector<uint8_t> &far;

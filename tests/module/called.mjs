@@ -145,7 +145,7 @@ export async function tryTooLong(nissy) {
     same(`${what} beside lines of too many bytes`, said, wanted);
     same(`${what}: what stands in their places`, each.slice(1, 4).map(({ name }) => name), ["NissyFault", "RangeError", "RangeError"]);
   }
-  same("what is told before and behind them", [told.solutions[0], told.solutions[4]], [F_OR_ITS_INVERSE, [{ moves: "", length: 0 }]]);
+  same("what is told before and after them", [told.solutions[0], told.solutions[4]], [F_OR_ITS_INVERSE, [{ moves: "", length: 0 }]]);
   same("also of counts", [0, 4].map((at) => told.counts[at].length), [1, 0]);
   same("and of facts", [0, 4].map((at) => told.facts[at].moves), [1, 1]);
 }

@@ -57,7 +57,7 @@ async function trySignals(worker) {
   same("a call given up while it waits", await givenUp, ["RangeError", "no more"]);
   first.abort(reason);
   same("the one that ran", await running, ["RangeError", "no more"]);
-  same("the one behind both", await kept, "U' R'");
+  same("the one after both", await kept, "U' R'");
   second.abort();
   const { signal } = new AbortController();
   for (let at = 0; at < 20; at += 1) await worker.invert("R", { signal });
@@ -84,7 +84,7 @@ async function tryNoOptions(worker) {
   }
 }
 
-/** Options that a worker's calls have beside those of `Nissy`: an object's own ones alone, each of which is read once. */
+/** Options that a worker's calls have beside those of `Nissy`: only an object's own ones, each of which is read once. */
 async function tryOwnOptions(worker) {
   const inherited = Object.create({ signal: AbortSignal.abort(), room: 0 });
   same("no signal is inherited", await worker.invert("R", inherited), "R'");
@@ -228,7 +228,7 @@ async function tryPuppets() {
   all[2].took({ id: id - 1, reply: inverse("another") });
   all[2].took({ id, reply: inverse("D'") });
   all[2].took({ id, reply: inverse("twice") });
-  same("its own answer is taken alone", await fourth, "D'");
+  same("only its own answer is taken", await fourth, "D'");
   const fifth = thrown(() => calls.invert("L"));
   all[2].took({ id: id + 1, error: { name: "RangeError", message: "no memory" } });
   same("what it throws", await fifth, ["RangeError", "no memory"]);

@@ -40,13 +40,13 @@ const TEXTS = [
   ["one beside a solution with a form", "R Q\n\nM", [atFault("scramble", 3, 3, 2, 1, 3)]],
   ["faults of both", "R Q\n\nM Q", [atFault("scramble", 3, 3, 2, 1, 3)]],
   ["one of a solution", "R\n\nM Q", [atFault("solution", 3, 3, 5, 3, 3)]],
-  ["one behind signs of several bytes", "1. R // \u00e9\u{1f600}\nR' // done\n\n2. D // \u00e9\u{1f600}\nSolution: D\u2032 Q\n\n3. F", [
+  ["one after signs of several bytes", "1. R // \u00e9\u{1f600}\nR' // done\n\n2. D // \u00e9\u{1f600}\nSolution: D\u2032 Q\n\n3. F", [
     { ...NOTHING, check: { solved: true, moves: 1, cleanMoves: 1, forms: [] } }, atFault("solution", 6, 4, 49, 5, 14), NOTHING,
   ]],
   ["steps of which the first two solve", "R U\n\nU' // one\nR' // two\nD // three", [{
     ...NOTHING, check: { solved: false, moves: 3, cleanMoves: 3, forms: [] }, doubt: doubt("a part", 5, 3, 1),
   }]],
-  ["a side without brackets, behind signs of several bytes", "R U F\n\nF' // \u{1f600} premoves\nR U", [{
+  ["a side without brackets, after signs of several bytes", "R U F\n\nF' // \u{1f600} premoves\nR U", [{
     ...NOTHING, check: { solved: false, moves: 3, cleanMoves: 3, forms: [] }, doubt: doubt("side", 16, 3, 9),
   }]],
   ["moves that are made twice", "R U R U\n\n(U' R')\u00d72", [{
@@ -159,14 +159,14 @@ export async function tryBounds(nissy) {
   const many = await caught(() => nissy.countAll("eofb", ["", "F B", "F"], { nodes: 30 }));
   same("a cut of many", [many.name, many.line], ["SearchCut", 2]);
   const mixed = await caught(() => nissy.countAll("eofb", ["", "q", "F B", "F"], { nodes: 30 }));
-  same("a cut behind a fault that is told", [mixed.name, mixed.line], ["SearchCut", 3]);
+  same("a cut after a fault that is told", [mixed.name, mixed.line], ["SearchCut", 3]);
   const told = await nissy.countAll("eofb", ["", "F B", "F"], { nodes: 30, cut: "value" });
   same("a cut of many, told", told.map((count) => count.cut), [undefined, true, undefined]);
   same("no nodes at all", await nissy.count("eofb", "R U F", { nodes: 0, cut: "value" }), { length: null, solutions: 0, nodes: 0, cut: true });
   const long = ["R U F2 L D R B", "q"];
   const limited = { slack: 4, cut: "value", nodes: 100_000 };
   same("a long search among many", await nissy.countAll("eo", long.slice(0, 1), limited), [await nissy.count("eo", long[0], limited)]);
-  same("and the fault behind it", await thrown(() => nissy.countAll("eo", long, { ...limited, faults: "throw" })), ["NissyFault", "line 2, column 1: not a move"]);
+  same("and the fault after it", await thrown(() => nissy.countAll("eo", long, { ...limited, faults: "throw" })), ["NissyFault", "line 2, column 1: not a move"]);
   same("a long one that ends", await nissy.countAll("eo", long.slice(0, 1), { slack: 3 }), [await nissy.count("eo", long[0], { slack: 3 })]);
   const endless = await nissy.count("eo", "R U F2 L D R B", { slack: 20, nodes: 1_000_000, cut: "value" });
   same("a search that would take days", [endless.cut, endless.nodes <= 1_000_000], [true, true]);

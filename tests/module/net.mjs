@@ -4,7 +4,7 @@ import { TURNS, ended, moduleBytes, same, thrown } from "./tally.mjs";
 
 const nissy = await Nissy.load(moduleBytes);
 
-// a turn of one face leaves the edges bad of that axis alone
+// a turn of one face leaves bad only the edges of that axis
 same("the axes", AXES.map((axis) => TURNS.filter((turn) => nissy.facts(turn).badEdges[axis].length > 0)),
   [["F", "F'", "B", "B'"], ["R", "R'", "L", "L'"], ["U", "U'", "D", "D'"]].map((each) => TURNS.filter((turn) => each.includes(turn))));
 same("none can be changed", [AXES, STEPS, EDGE_PLACES, CORNER_PLACES, NET, ...NET].every(Object.isFrozen), true);

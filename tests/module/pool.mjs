@@ -73,7 +73,7 @@ async function tryFaults(pool) {
   same("or told", values.map((each) => each.cut), [undefined, true]);
   const begun = performance.now();
   const endless = Array.from({ length: 12 }, () => ENDLESS);
-  same("lines behind a fault aren't waited for", await thrown(() => pool.countAll("eo", ["q", ...endless], { ...LONG, faults: "throw" })), ["NissyFault", "line 1, column 1: not a move"]);
+  same("lines after a fault aren't waited for", await thrown(() => pool.countAll("eo", ["q", ...endless], { ...LONG, faults: "throw" })), ["NissyFault", "line 1, column 1: not a move"]);
   same("so it is told soon", performance.now() - begun < SOON, true);
 }
 
@@ -262,7 +262,7 @@ async function tryManyWorkers() {
   same("node warns of nothing", said, []);
 }
 
-/** A worker has a second piece of the same call while it works on a quick one, and none behind a slow one. */
+/** A worker has a second piece of the same call while it works on a quick one, and none after a slow one. */
 async function tryAhead() {
   const workers = [];
   const pool = new WorkerPool(1, moduleBytes, (took) => {
@@ -284,7 +284,7 @@ async function tryAhead() {
   same("a piece of which nothing is known is alone", await has(), 1);
   for (const [milliseconds, wanted] of [[1, 2], [1, 2], [100, 1], [100, 1], [1, 2]]) {
     workers[0].answer(milliseconds);
-    same(`so many behind one of ${milliseconds} ms`, await has(), wanted);
+    same(`so many after one of ${milliseconds} ms`, await has(), wanted);
   }
   const other = pool.factsAll(["D"]);
   workers[0].answer(1);
@@ -306,7 +306,7 @@ async function tryAhead() {
   await has();
   workers[1].answer(1);
   same("a fault in the first piece", await first, ["NissyFault", "line 1, column 1: here"]);
-  same("ends no worker: nothing is sent behind it", [workers[1].sent.length, ...workers.map(({ isEnded }) => isEnded)], [0, true, false]);
+  same("ends no worker: nothing is sent after it", [workers[1].sent.length, ...workers.map(({ isEnded }) => isEnded)], [0, true, false]);
 }
 
 /** The best continuations, an axis a worker. */

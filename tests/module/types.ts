@@ -149,7 +149,7 @@ export function place(fault: unknown): number | null {
   return fault instanceof NissyFault && !isStart && fault.part === "" ? fault.column : null;
 }
 
-// what a worker sends for a line: a value, a fault of the line, or of its cube, which alone has a step that must hold before
+// what a worker sends for a line: a value, a fault of the line, or of its cube, the only one with a step that must hold before
 export function said(reply: LineReply | Seen): string | number {
   if ("answer" in reply) return reply.answer.length;
   if (reply.status === 0) return reply.out;

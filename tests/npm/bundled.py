@@ -142,6 +142,16 @@ class Trial:
             tally.equal(f"{browser}: the package from another server", got, "AbortError, F2 U R'")
 
 
+def in_browser(trial: Trial, tally: Tally, browser: str) -> None:
+    """Opens the pages in a browser."""
+    with tempfile.TemporaryDirectory(ignore_cleanup_errors=True) as room:
+        window = BROWSERS[browser](room)
+        try:
+            trial.in_window(tally, browser, window)
+        finally:
+            window.end()
+
+
 def main() -> None:
     """Bundles, and opens the pages in one browser after the other."""
     tally = Tally()
@@ -155,12 +165,7 @@ def main() -> None:
             if not is_here(browser):
                 print(f"skipped: the bundles in {browser}, which isn't installed")
                 continue
-            with tempfile.TemporaryDirectory(ignore_cleanup_errors=True) as room:
-                window = BROWSERS[browser](room)
-                try:
-                    trial.in_window(tally, browser, window)
-                finally:
-                    window.end()
+            in_browser(trial, tally, browser)
     tally.end()
 
 

@@ -130,7 +130,7 @@ def drawn(seed: int, count: int) -> list[Tried]:
     draw = random.Random(seed)
     found: list[Tried] = []
     for at in range(count):
-        # the last few alone are called, so that no chain of calls grows long
+        # only the last few are called, so that no chain of calls grows long
         callees = [it.name for it in found[-3:]] if at % 4 else []
         found.append(on_memory(f"drawn_{at}", Drawing(draw, callees).filled(FUNCTION, 0)))
     return found

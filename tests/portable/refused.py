@@ -109,52 +109,50 @@ def why_uncalled(header: str, room: Path, params: str) -> str:
     return ""
 
 
+def refuses_modules(tally: Tally, room: Path) -> None:
+    """Modules that aren't translated, also each that was cut."""
+    for wanted, text in REFUSED.items():
+        tally.equal("why a module is refused", why_refused(module(text, 16, room), module(text, 64, room)), wanted)
+    whole = module(MEMORY + '(func $f (export "f") (param i32) (drop (i32.add (local.get 0) (i32.const 9))))', 16, room)
+    tally.equal("why the same one twice is", why_refused(whole, whole), "constants that aren't moved as the stack is")
+    # 8 bytes say that it is a module, and a section that is whole may be the last one
+    cut = {why_refused(whole[:length], whole) for length in range(len(whole))} - {""}
+    known = {
+        "a module that is cut off",
+        "a file that is no WebAssembly module",
+        "a first global that is no stack pointer",
+        "constants that aren't moved as the stack is",
+    }
+    tally.equal("why one that was cut is", cut - known, set())
+    tally.holds("one that was cut is refused as such", "a module that is cut off" in cut)
+
+
+def refuses_calls(tally: Tally, room: Path) -> None:
+    """Calls that header and module don't have alike, or that aren't of the form of the others."""
+    right = "(param i64 i64 i64)"
+    tally.equal("a call that both have", why_uncalled(HEADER, room, right), "")
+    unlike = "nissy_one has not the same parameters in the header and in the module"
+    tally.equal("one with other parameters", why_uncalled(HEADER, room, "(param i64 i64)"), unlike)
+    more = HEADER + "uint8_t nissy_two(void);\n"
+    lacking = "calls of the header that the module hasn't: nissy_two"
+    tally.equal("one that the module hasn't", why_uncalled(more, room, right), lacking)
+    pointer = HEADER + "const char *nissy_text(void);\n"
+    why = "calls that aren't declared in one form with the others: nissy_text"
+    tally.equal("one that returns a pointer", why_uncalled(pointer, room, right), why)
+    two = HEADER.replace("uint8_t status;", "uint8_t status, fault;")
+    why = "a field of another form: uint8_t status, fault;"
+    tally.equal("two fields in one", why_uncalled(two, room, right), why)
+    hand = HEADER.replace("const uint8_t *line", "struct other *line")
+    why = "nissy_one takes struct other *line: such a call is written by hand, in portable/calls.c"
+    tally.equal("one that takes something else", why_uncalled(hand, room, right), why)
+
+
 def main() -> None:
     """Tries each."""
     tally = Tally()
     with tempfile.TemporaryDirectory() as folder:
-        room = Path(folder)
-        for wanted, text in REFUSED.items():
-            tally.equal("why a module is refused", why_refused(module(text, 16, room), module(text, 64, room)), wanted)
-        whole = module(
-            MEMORY + '(func $f (export "f") (param i32) (drop (i32.add (local.get 0) (i32.const 9))))', 16, room
-        )
-        tally.equal(
-            "why the same one twice is", why_refused(whole, whole), "constants that aren't moved as the stack is"
-        )
-        # 8 bytes say that it is a module, and a section that is whole may be the last one
-        cut = {why_refused(whole[:length], whole) for length in range(len(whole))} - {""}
-        known = {
-            "a module that is cut off",
-            "a file that is no WebAssembly module",
-            "a first global that is no stack pointer",
-            "constants that aren't moved as the stack is",
-        }
-        tally.equal("why one that was cut is", cut - known, set())
-        tally.holds("one that was cut is refused as such", "a module that is cut off" in cut)
-        right = "(param i64 i64 i64)"
-        tally.equal("a call that both have", why_uncalled(HEADER, room, right), "")
-        unlike = "nissy_one has not the same parameters in the header and in the module"
-        tally.equal("one with other parameters", why_uncalled(HEADER, room, "(param i64 i64)"), unlike)
-        more = HEADER + "uint8_t nissy_two(void);\n"
-        tally.equal(
-            "one that the module hasn't",
-            why_uncalled(more, room, right),
-            "calls of the header that the module hasn't: nissy_two",
-        )
-        pointer = HEADER + "const char *nissy_text(void);\n"
-        tally.equal(
-            "one that returns a pointer",
-            why_uncalled(pointer, room, right),
-            "calls that aren't declared in one form with the others: nissy_text",
-        )
-        two = HEADER.replace("uint8_t status;", "uint8_t status, fault;")
-        tally.equal(
-            "two fields in one", why_uncalled(two, room, right), "a field of another form: uint8_t status, fault;"
-        )
-        hand = HEADER.replace("const uint8_t *line", "struct other *line")
-        why = "nissy_one takes struct other *line: such a call is written by hand, in portable/calls.c"
-        tally.equal("one that takes something else", why_uncalled(hand, room, right), why)
+        refuses_modules(tally, Path(folder))
+        refuses_calls(tally, Path(folder))
     tally.end()
 
 

@@ -29,7 +29,6 @@ EDGES = (
     0xFFFFFFFFFFFFFFFF,
     0xDEADBEEFCAFEBABE,
 )
-MASK = (1 << 64) - 1
 # Translates by the tools of a folder, so that a wrong copy of them can be tried.
 TRANSLATE = """
 import sys

@@ -143,7 +143,7 @@ export class Page {
     if (this.#cube === null && this.#turn === turn + 1 && !hasLines(state)) setUsable(false);
   }
 
-  /** Shows what an address says as it stands there, where no engine reads it. */
+  /** Shows what an address says as it stands there, if no engine reads it. */
   #showUnread({ scramble, parts }: State, fault: unknown) {
     this.#scramble.show(scramble);
     this.#line.show(parts);
@@ -189,7 +189,7 @@ export class Page {
       const joined = withOthers(this.#state.kept, asCopied(kept, fmc.copied ?? []));
       this.#change({ ...(parts.length > 0 && { parts }), kept: joined.kept }, { isStep: !isNew });
       tell(part("alert"), whyUnread(unread) || joined.why);
-      // once, where it can be mended
+      // once, if it can be mended
       if (doubt === null || doubted < 0) this.#scramble.tellDoubt(doubt);
       else this.#line.doubt(doubted, wordsOfDoubt(doubt, fmc.text, { turns: parts[doubted].normal, undoing }));
     } catch (fault) {

@@ -1,4 +1,4 @@
-// A page that takes scripts and module from another server, whose address stands behind its own.
+// A page that takes scripts and module from another server, whose address stands after its own.
 const server = location.search.slice(1);
 const { NissyWorker } = await import(`${server}browser.js`);
 const nissy = await NissyWorker.start(fetch(`${server}nissy.wasm`));

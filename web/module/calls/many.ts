@@ -52,7 +52,7 @@ export function allRequest(each: OfEach, { name, one }: Kind, values: unknown, o
   return { call: "all", each, faults, lines: eachOf(values, (value, index) => one(value, index + 1, take)) };
 }
 
-/** Whether the reply for a line of many ends the call, so that no line behind it is answered. */
+/** Whether the reply for a line of many ends the call, so that no line after it is answered. */
 export function endsAll({ each, faults }: AllRequest, { status }: OneReply) {
   if (status === STATUS.cut) return "cut" in each && each.cut === "throw";
   return status !== STATUS.done && faults === "throw";

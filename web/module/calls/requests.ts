@@ -14,7 +14,7 @@ export type Pair = { scramble: Text | null; solution: Text | null };
 
 type Bounds = { slack: number; most: number; nodes: number; cut: Telling };
 export type Search = Bounds & { step: string; line: Text; limit: number };
-/** `after`: the solution behind which the list begins. */
+/** `after`: the solution after which the list begins. */
 export type SolveRequest = Search & { call: "solve"; after?: string };
 export type OfEach = SolveRequest
   | Search & { call: "count" }
@@ -46,7 +46,7 @@ export type Wanted = {
  * alone, or on both; each solution then says its moves on both. */
 export type OnSides<On extends Sides | undefined = Sides | undefined> = { sides?: On };
 
-/** Scrambles that are known, of which a text has solutions alone. */
+/** Scrambles that are known, of which a text has only solutions. */
 export type Known = { scrambles?: readonly Text[] | undefined };
 
 /** What is wanted of the best ways on: `soFar`, the moves that were made after the scramble, those in brackets on its
@@ -59,7 +59,7 @@ export const MOST_TURNS = 20;
 /** How many of the best are told if it isn't said. */
 const MOST_TOLD = 20;
 
-/** The most turns of a scramble, the most scrambles, and the most bytes of a turn with what stands behind it. */
+/** The most turns of a scramble, the most scrambles, and the most bytes of a turn with what stands after it. */
 const MOST_SCRAMBLED = 256;
 const MOST_SCRAMBLES = 10_000;
 const MOST_OF_TURN = 3;
@@ -82,7 +82,7 @@ export function refuseUnknown(options: unknown, known: readonly string[]) {
 export function runRequest(words: unknown, input: unknown = "", room: unknown = undefined): RequestOf<"run"> {
   const listed = joinedWords(words);
   const given = bytesOf(input, "the input");
-  // the module would take a negative one as 2^64 less so much, and write behind the memory
+  // the module would take a negative one as 2^64 less so much, and write beyond the memory
   const size = room === undefined ? room : wholeNumber(room, "the room", Number.MAX_SAFE_INTEGER);
   return { call: "run", words: listed, input: given, room: size };
 }

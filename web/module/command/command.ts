@@ -69,7 +69,7 @@ function writeCount(instance: Instance, { step, limit }: Search, line: Uint8Arra
 const READ = SEARCH_ANSWER.read;
 const hasMore = ({ answer, at }: Piece) => READ.more(answer, at) === 1;
 
-/** Writes a piece of a list, and an empty line behind the last one. */
+/** Writes a piece of a list, and an empty line after the last one. */
 function writePiece(piece: Piece) {
   const { out } = piece;
   pieceRoom.set(out);

@@ -73,7 +73,7 @@ function takePiece(
 }
 
 /** What is asked of many lines at once, or null if each has to be asked by itself: the module has no such call, or the
- * first fault, or the first search that is cut, ends all, so that what is behind it isn't searched. */
+ * first fault, or the first search that is cut, ends all, so that what is after it isn't searched. */
 function questionOf(instance: Instance, { each, faults }: AllRequest): Question | null {
   if (each.call === "facts") return { name: "nissy_facts_lines", given: (lines, answers) => [lines, answers] };
   if (each.call === "best" || each.call === "check") return null;

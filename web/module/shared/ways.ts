@@ -5,7 +5,7 @@ import { STEPS, type Step } from "./steps.js";
 
 /** The moves of a step on both sides: `normal` and `inverse` those of each, and `moves` both in one line, with those on
  * the inverse side in brackets. `twins` are the last turns of the other moves with which it is reached too, written so:
- * they differ in the direction of these alone. */
+ * they differ only in the direction of these. */
 export type BestStep = OnSides<string> & { step: Step; moves: string; length: number; twins: string[] };
 
 /** A reduction, and its least length on each side alone, null if there is none of at most 20 turns. It has twins
@@ -75,7 +75,7 @@ function wayAt(bytes: Uint8Array, at: number): BestRow {
 export const waysIn = (bytes: Uint8Array) =>
   Array.from({ length: bytes.length / WAY.bytes }, (_, row) => wayAt(bytes, row * WAY.bytes));
 
-/** The moves of a step, one way to make it behind the other. */
+/** The moves of a step, one way to make it after the other. */
 export const bothSidesIn = (bytes: Uint8Array) => Array.from({ length: bytes.length / WAY_PART.bytes }, (_, at) =>
   stepAt(bytes, at * WAY_PART.bytes) as BestStep);
 

@@ -28,7 +28,7 @@ export type FormPlace = {
   character: number;
 };
 
-/** A bracket, or a move: its letters, and what is behind them. */
+/** A bracket, or a move: its letters, and what is after them. */
 const ITEM = /([()])|([UDRLFB]w?|[udrlfbMESxyz])(2?['\u2019]|2)?/g;
 
 const QUARTERS = new Map([["", 1], ["2", 2], ["'", -1], ["\u2019", -1], ["2'", 2], ["2\u2019", 2]]);

@@ -65,7 +65,7 @@ class Pieces {
   #told: ToldLines;
   /** What was begun and isn't told. */ #open = new Set<Piece>();
   /** how many lines are in a piece */ #begun = 0;
-  /** how many lines are wanted: none behind a piece with a reply that ends the call */ #wanted = Infinity;
+  /** how many lines are wanted: none after a piece with a reply that ends the call */ #wanted = Infinity;
   #hasFirst = false;
   #size = FIRST_LINES;
   #least = 1;
@@ -133,7 +133,7 @@ class Pieces {
   }
 }
 
-/** Asks for pieces of many lines, until all is told that is wanted: what is behind a fault isn't waited for. */
+/** Asks for pieces of many lines, until all is told that is wanted: what comes after a fault isn't waited for. */
 const askAll = (pieces: Pieces, ask: Ask, tell: Follow) => new Promise<void>((whole, failed) => {
   let asked = 0;
   const next = () => (asked < pieces.atOnce ? pieces.next() : null);

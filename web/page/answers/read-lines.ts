@@ -1,4 +1,4 @@
-// How lines are read, by the engine at hand: as it writes them, and by face turns alone if they turn the whole cube.
+// How lines are read, by the engine at hand: as it writes them, and only by face turns if they turn the whole cube.
 // Such turns, which it puts at the end, are left out, so that each letter names one face in all that follows.
 import { NissyFault, type FaultParts } from "../../module/shared/faults.js";
 import { MOST_MOVES } from "../state/limits.js";

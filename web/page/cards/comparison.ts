@@ -12,7 +12,7 @@ import type { View } from "../answers/examine.js";
 export const MOST_COMPARED = 4;
 
 /** `next`: the best of the reduction that it was kept with. */
-export type ComparedLine = { parts: Part[]; note: string; next: BestRow | null; goOn: () => void };
+type ComparedLine = { parts: Part[]; note: string; next: BestRow | null; goOn: () => void };
 
 function netOf(side: Side, view: View, choice: string) {
   const net = emptyNet();

@@ -235,7 +235,7 @@ export class LineSoFar {
     if (isWithin) row?.querySelectorAll("button")[focused].focus({ preventScroll: true });
   }
 
-  /** @param side on which one goes on, else where the last step was if that alone is taken back */
+  /** @param side on which one goes on, else where the last step was if only that is taken back */
   #undo(parts: Part[], side = parts.length === this.#parts.length - 1 ? lastSideOf(lastOf(this.#parts)) : null) {
     const isBack = this.acts.change(side === null ? { parts } : { parts, side });
     announce(parts.length === 0 ? "The line is empty." : `The line is ${spoken(bracketed(parts))}.`);

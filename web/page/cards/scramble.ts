@@ -183,7 +183,7 @@ export class ScrambleField {
     this.#take({ text, at: 0, copied }, attempts, { isReplaced, whole, others });
   }
 
-  /** Reads a scramble of a text that was pasted with others, as if it alone had been pasted.
+  /** Reads a scramble of a text that was pasted with others, as if only it had been pasted.
    * @returns whether it is there: the page that kept the text may have had another reader */
   open(written: Written) {
     const attempts = this.reader.attempts(written.text);

@@ -59,7 +59,7 @@ export function newlyReached({ reached }: { reached: string[][] }, index: number
   return reductions.length > 0 ? reductions : fresh;
 }
 
-/** The same as it is said of a step: of one that solves, that alone. */
+/** The same as it is said of a step: of one that solves, only that. */
 export const saidToBeReached = (walk: { reached: string[][]; facts: { solved: boolean }[] }, index: number) =>
   (walk.facts[index + 1].solved ? ["solved"] : newlyReached(walk, index));
 

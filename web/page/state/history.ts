@@ -140,7 +140,7 @@ export class Seen {
     if (taken.length === 1) this.#rows.set(nameOfSeen(scramble, all, ""), { key, list });
   }
 
-  /** From which row the last step was taken, and beside which list, if it alone is undone; or null. */
+  /** From which row the last step was taken, and beside which list, if only it is undone; or null. */
   rowBefore({ scramble, parts }: State, left?: Part[]) {
     const before = parts.slice(0, -1);
     const isUndone = parts.length > 0 && left?.length === before.length && bracketed(left) === bracketed(before);
