@@ -122,6 +122,9 @@ fn first_said(text: &[u8], from: usize, to: usize, has_brackets: bool) -> (Doubt
 {
     for at in from..to {
         let rest = &text[at..to];
+        if !is_letter(text[at]) && text[at] < 0x80 {
+            continue;
+        }
         let is_begun = at == from || !is_letter(text[at.saturating_sub(1)]);
         let before = &text[from..at];
         if is_normal_side(rest, before) {

@@ -134,6 +134,7 @@ fn blanks(line: &[u8]) -> usize
 }
 
 /// How many bytes of blanks and of signs that quote it, such as `> `, a line begins with.
+#[inline(never)]
 fn margin(line: &[u8]) -> usize
     ensures { result ≤ length line.now }
 {

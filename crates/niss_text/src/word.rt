@@ -227,30 +227,10 @@ fn is_joint(kind: Kind, byte: u8) -> bool {
     }
 }
 
-/// Whether a part of a word between such signs is moves. Beside a dash or a slash they have a 2 or an apostrophe: solvers
-/// write axes so, as `EO-FB`.
-fn has_glued_moves(word: &[u8]) -> bool {
-    let has_dash = word.iter().any(|byte| matches!(*byte, b'-' | b'/'));
-    let mut part = Seen::nothing();
-    let mut rest = word;
-    while !rest.is_empty() {
-        let sign = first_sign(rest);
-        let is_of_joint = sign.kind == Kind::Inner && part.signs == 0;
-        if is_of_joint || is_joint(sign.kind, rest[0]) {
-            if part.is_glued(has_dash) {
-                return true;
-            }
-            part = Seen::nothing();
-        } else {
-            part = part.with(sign.kind, rest[0]);
-        }
-        rest = &rest[sign.length..];
-    }
-    part.is_glued(has_dash)
-}
-
-/// What is seen of the word that a text begins with, and how many bytes it has, one sign at least.
-fn spelled_word(text: &[u8]) -> (Seen, usize)
+/// What is seen of the word that a text begins with, or of its part up to such a sign, and how many bytes it has, one sign
+/// at least.
+#[inline(never)]
+fn spelled(text: &[u8], is_part: bool) -> (Seen, usize)
     requires { 0 < length text.now }
     ensures { (0 < result.1) × (result.1 ≤ length text.now) }
 {
@@ -259,13 +239,33 @@ fn spelled_word(text: &[u8]) -> (Seen, usize)
     let mut rest = &text[first.length..];
     while !rest.is_empty() {
         let sign = first_sign(rest);
-        if is_parting(sign.kind) {
+        if is_parting(sign.kind) || (is_part && is_joint(sign.kind, rest[0])) {
             break;
         }
         seen = seen.with(sign.kind, rest[0]);
         rest = &rest[sign.length..];
     }
     (seen, text.len() - rest.len())
+}
+
+/// Whether a part of a word between such signs is moves. Beside a dash or a slash they have a 2 or an apostrophe: solvers
+/// write axes so, as `EO-FB`.
+fn has_glued_moves(word: &[u8]) -> bool {
+    let has_dash = word.iter().any(|byte| matches!(*byte, b'-' | b'/'));
+    let mut rest = word;
+    while !rest.is_empty() {
+        let sign = first_sign(rest);
+        if sign.kind == Kind::Inner || is_joint(sign.kind, rest[0]) {
+            rest = &rest[sign.length..];
+        } else {
+            let (part, length) = spelled(rest, true);
+            if part.is_glued(has_dash) {
+                return true;
+            }
+            rest = &rest[length..];
+        }
+    }
+    false
 }
 
 /// Whether a text ends at a place, or has a blank there.
@@ -314,7 +314,7 @@ pub fn first_word(text: &[u8]) -> (Word, usize)
         Kind::Close => (Word::Close, sign.length),
         Kind::Blank | Kind::Comma | Kind::LineEnd | Kind::Unseen => (Word::Parting, sign.length),
         _ => {
-            let (seen, length) = spelled_word(text);
+            let (seen, length) = spelled(text, false);
             let word = seen.word().or_step(&text[..length]);
             let may_have_moves = word == Word::Said && seen.has_mark && seen.capitals > 0;
             if may_have_moves && has_glued_moves(&text[..length]) {

@@ -33,14 +33,36 @@ pub fn is_word(text: &[u8], word: &[u8]) -> bool {
     text.len() == word.len() && word_length(text, word) > 0
 }
 
+/// How many bytes of some words stand before the first comma.
+fn first_length(words: &[u8]) -> usize
+    ensures { result ≤ length words.now }
+{
+    for (at, byte) in words.iter().enumerate() {
+        if *byte == b',' {
+            return at;
+        }
+    }
+    words.len()
+}
+
+/// Whether a text begins with one of these words, or is one. They have small letters, and commas between them.
+#[inline(never)]
+fn fits_one_of(text: &[u8], words: &[u8], is_whole: bool) -> bool {
+    let mut rest = words;
+    while !rest.is_empty() {
+        let length = first_length(rest);
+        if (!is_whole || text.len() == length) && word_length(text, &rest[..length]) > 0 {
+            return true;
+        }
+        let comma = &rest[length..];
+        rest = &comma[comma.len().min(1)..];
+    }
+    false
+}
+
 /// Whether a word of a label says that moves without brackets belong to the inverse: no line says so without them.
 pub fn is_other_side(word: &[u8]) -> bool {
-    is_word(word, b"inverse")
-        || is_word(word, b"inv")
-        || is_word(word, b"niss")
-        || is_word(word, b"premove")
-        || is_word(word, b"premoves")
-        || is_word(word, b"switch")
+    fits_one_of(word, b"inverse,inv,niss,premove,premoves,switch", true)
 }
 
 /// A kind of words that a label or a comment may have.
@@ -59,27 +81,15 @@ impl Wanted {
     fn has(self, word: &[u8]) -> bool {
         match self {
             Wanted::Step => is_step_name(word),
-            Wanted::Inverse => is_word(word, b"inverse") || is_word(word, b"inv"),
-            Wanted::Switch => {
-                is_word(word, b"normal")
-                    || is_word(word, b"niss")
-                    || is_word(word, b"switch")
-                    || is_word(word, b"premove")
-                    || is_word(word, b"premoves")
-            }
+            Wanted::Inverse => fits_one_of(word, b"inverse,inv", true),
+            Wanted::Switch => fits_one_of(word, b"normal,niss,switch,premove,premoves", true),
         }
     }
 }
 
 /// Whether solvers call a step so.
 pub fn is_step_name(word: &[u8]) -> bool {
-    is_word(word, b"eo")
-        || is_word(word, b"dr")
-        || is_word(word, b"htr")
-        || is_word(word, b"fr")
-        || is_word(word, b"finish")
-        || is_word(word, b"skeleton")
-        || is_word(word, b"slice")
+    fits_one_of(word, b"eo,dr,htr,fr,finish,skeleton,slice", true)
 }
 
 /// Whether a text has a word of such.
@@ -114,11 +124,13 @@ pub enum Topic {
 
 /// What is said by the letters that a text begins with, after others.
 pub fn first_topic(text: &[u8], before: &[u8]) -> Option<Topic> {
-    if begins_one_of(text, SIDES.as_slice()) || is_letter_of_inverse(text, before) {
+    let is_beyond = !text.is_empty() && text[0] >= 0x80;
+    let sides = if is_beyond { SIDES_BEYOND } else { SIDES };
+    if fits_one_of(text, sides, false) || is_letter_of_inverse(text, before) {
         Some(Topic::Side)
-    } else if begins_one_of(text, REPETITIONS.as_slice()) {
+    } else if fits_one_of(text, REPETITIONS, false) {
         Some(Topic::Repetition)
-    } else if begins_insertion(text) {
+    } else if begins_insertion(text, is_beyond) {
         Some(Topic::Insertion)
     } else {
         None
@@ -126,66 +138,24 @@ pub fn first_topic(text: &[u8], before: &[u8]) -> Option<Topic> {
 }
 
 /// Letters by which solvers name another side of the cube than the normal one, on which moves are read anyway, or a change
-/// of it. Those of Cyrillic are without the first, which may be a capital.
-const SIDES: [&[u8]; 16] = [
-    b"inv",
-    b"niss",
-    b"premov",
-    b"pre-mov",
-    b"switch",
-    b"side",
-    b"revers",
-    b"backward",
-    b"back to normal",
-    b"r\xc3\xbcck",
-    b"odwr",
-    // "inverse" and "back" in Russian
-    b"\xd0\xbd\xd0\xb2\xd0\xb5\xd1\x80\xd1\x81",
-    b"\xd0\xb1\xd1\x80\xd0\xb0\xd1\x82\xd0\xbd",
-    // the sign for it in Chinese and Japanese, and in Korean
-    b"\xe9\x80\x86",
-    b"\xec\x97\xad",
-    b"\xec\x9d\xb8\xeb\xb2\x84\xec\x8a\xa4",
-];
+/// of it.
+const SIDES: &[u8] =
+    b"inv,niss,premov,pre-mov,switch,side,revers,backward,back to normal,r\xc3\xbcck,odwr";
+
+/// The same in Russian, without the first letter, which may be a capital, in Chinese and Japanese, and in Korean.
+const SIDES_BEYOND: &[u8] =
+    b"\xd0\xbd\xd0\xb2\xd0\xb5\xd1\x80\xd1\x81,\xd0\xb1\xd1\x80\xd0\xb0\xd1\x82\xd0\xbd,\xe9\x80\x86,\xec\x97\xad,\xec\x9d\xb8\xeb\xb2\x84\xec\x8a\xa4";
 
 /// Letters by which solvers say that moves are made several times.
-const REPETITIONS: [&[u8]; 6] = [
-    b"twice",
-    b"thrice",
-    b"times",
-    b"again",
-    b"once more",
-    b"repeat",
-];
+const REPETITIONS: &[u8] = b"twice,thrice,times,again,once more,repeat";
 
 /// Letters by which solvers say that moves belong into others or in their place, or that others belong into these.
-const INSERTIONS: [&[u8]; 18] = [
-    b"instead",
-    b"should be",
-    b"replac",
-    b"correct",
-    b"oops",
-    b"edit:",
-    b"inser",
-    b"einf",
-    b"wstaw",
-    // "insertion" in Russian, without the first letter, in Chinese, Japanese and Korean
-    b"\xd1\x81\xd1\x82\xd0\xb0\xd0\xb2\xd0\xba",
-    b"\xe6\x8f\x92\xe5\x85\xa5",
-    b"\xe6\x8c\xbf\xe5\x85\xa5",
-    b"\xec\x82\xbd\xec\x9e\x85",
-    b"skele",
-    b"squel",
-    b"esquel",
-    b"schele",
-    // "skeleton" in Chinese and Japanese
-    b"\xe9\xaa\xa8\xe6\x9e\xb6",
-];
+const INSERTIONS: &[u8] =
+    b"inser,einf,wstaw,instead,should be,replac,correct,oops,edit:,skele,squel,esquel,schele";
 
-/// Whether a text begins with one of these, which have small letters.
-fn begins_one_of(text: &[u8], words: &[&[u8]]) -> bool {
-    words.iter().any(|word| word_length(text, word) > 0)
-}
+/// The same in Russian, without the first letter, in Chinese, Japanese and Korean.
+const INSERTIONS_BEYOND: &[u8] =
+    b"\xd1\x81\xd1\x82\xd0\xb0\xd0\xb2\xd0\xba,\xe6\x8f\x92\xe5\x85\xa5,\xe6\x8c\xbf\xe5\x85\xa5,\xec\x82\xbd\xec\x9e\x85,\xe9\xaa\xa8\xe6\x9e\xb6";
 
 /// Whether a text begins with an I that stands by itself, as solvers name the inverse. Before a word in small letters it
 /// is who writes. A small one counts only at the end of what it stands in, and after a sign or a blank.
@@ -208,10 +178,15 @@ pub fn is_normal_side(text: &[u8], before: &[u8]) -> bool {
     word_length(text, b"side") > 0 && word_length(normal, b"normal") > 0
 }
 
-/// Whether a text begins with such letters, or with a word of three of them.
-fn begins_insertion(text: &[u8]) -> bool {
+/// Whether a text begins with letters that say so, or with a word of three.
+fn begins_insertion(text: &[u8], is_beyond: bool) -> bool {
+    let words = if is_beyond {
+        INSERTIONS_BEYOND
+    } else {
+        INSERTIONS
+    };
     let letters = length_of(text, Class::Letters);
-    is_word(&text[..letters], b"ins") || begins_one_of(text, INSERTIONS.as_slice())
+    is_word(&text[..letters], b"ins") || fits_one_of(text, words, false)
 }
 
 /// How many bytes the word has that stands before each of several scrambles, if a text begins with one; else 0.

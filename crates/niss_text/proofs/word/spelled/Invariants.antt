@@ -1,5 +1,5 @@
 use Rattle.std.proofs.Common.{◌<◌, length}
-use Rattle.niss_text.proofs.word.spelled_word.Given as goal
+use Rattle.niss_text.proofs.word.spelled.Given as goal
 
 abbrev pub invariant-loop-sign : goal.invariant-loop-sign
 invariant-loop-sign l = length l.rest < length l.text
