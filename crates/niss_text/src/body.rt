@@ -2,7 +2,7 @@
 ghost use Rattle.std.specs.Prelude.{◌≤◌, ◌<◌, length, IfSome};
 
 use crate::sights::is_capital;
-use crate::sign::{Class, behind, first_kind, first_sign, trimmed};
+use crate::sign::{Class, behind, first_kind, one_sign, trimmed};
 
 /// What is after an apostrophe in front of a text, if it is there, from the next letter on, which may be on another line.
 #[inline(never)]
@@ -12,7 +12,7 @@ fn behind_prime(text: &[u8]) -> Option<&[u8]>
     if text.is_empty() {
         return None;
     }
-    let sign = first_sign(text);
+    let sign = one_sign(text);
     if sign.kind.is_prime() {
         Some(behind(&text[sign.length..], Class::NoLetters))
     } else {

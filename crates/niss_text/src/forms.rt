@@ -3,8 +3,8 @@ ghost use Rattle.std.specs.Prelude.{◌≡◌, ◌≤◌, ◌<◌, ℕ, true, fa
 ghost use Rattle.niss_text.specs.Signs.{ends_line};
 
 use crate::sign::{
-    Class, Kind, digits_length, first_kind, first_sign, is_letter, is_of_word, is_skipped,
-    length_of, trimmed,
+    Class, Kind, digits_length, first_kind, is_letter, is_of_word, is_skipped, length_of, one_sign,
+    trimmed,
 };
 use crate::words::{head_word_length, is_other_side, word_length};
 
@@ -16,7 +16,7 @@ fn sign_length(text: &[u8], kind: Kind) -> usize
     if text.is_empty() {
         return 0;
     }
-    let sign = first_sign(text);
+    let sign = one_sign(text);
     if sign.kind == kind { sign.length } else { 0 }
 }
 
@@ -107,7 +107,7 @@ fn number_end_length(text: &[u8]) -> usize
     if text.is_empty() {
         return 0;
     }
-    let sign = first_sign(text);
+    let sign = one_sign(text);
     let is_end = text[0] == b'.' || text[0] == b')' || sign.kind == Kind::Colon;
     if is_end && first_kind(&text[sign.length..]) != Kind::Digit {
         sign.length

@@ -17,7 +17,7 @@ pub fn is_head(line: &Line) -> bool {
 const MOST_FURTHER_LINES: usize = 7;
 
 /// How many bytes the lines of a whole scramble have that begins a text, whose first line this is; 0 if none does. It may
-/// go on over further lines, whatever is said of their moves, up to one that begins another.
+/// go on over further lines, whatever is said of their moves but that they are a step, up to one that begins another.
 fn whole_scramble_length(text: &[u8], line: &Line, numbers: Numbers) -> usize
     requires { line.now.length ≤ length text.now }
     ensures { result ≤ length text.now }
@@ -35,7 +35,8 @@ fn whole_scramble_length(text: &[u8], line: &Line, numbers: Numbers) -> usize
         }
         let rest = &text[end..];
         let (next, length) = cut_line(rest, numbers);
-        if !next.is_moves || is_head(&next) || begins_scramble(&rest[next.moves..next.comment]) {
+        let is_other = is_head(&next) || begins_scramble(&rest[next.moves..next.comment]);
+        if !next.is_moves || next.is_step || is_other {
             return 0;
         }
         end += length;

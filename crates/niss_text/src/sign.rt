@@ -157,6 +157,16 @@ fn longer_sign(text: &[u8]) -> Sign
     }
 }
 
+/// The same where it is seldom asked for, in fewer bytes of code.
+#[inline(never)]
+pub fn one_sign(text: &[u8]) -> Sign
+    requires { 0 < length text.now }
+    ensures some { 0 < result.length }
+    ensures fits { result.length ≤ length text.now }
+{
+    first_sign(text)
+}
+
 /// What the first sign of a text is, a line end of none.
 pub fn first_kind(text: &[u8]) -> Kind {
     if text.is_empty() {
@@ -236,11 +246,9 @@ impl Class {
 pub fn behind(text: &[u8], class: Class) -> &[u8]
     ensures { length result.now ≤ length text.now }
 {
-    // a loop for each that is asked for often, which has the test of that one alone
+    // a loop for the one that is asked for most, which has only its test
     match class {
         Class::Skipped => passed(text, Class::Skipped),
-        Class::Word => passed(text, Class::Word),
-        Class::Letters => passed(text, Class::Letters),
         _ => passed(text, class),
     }
 }

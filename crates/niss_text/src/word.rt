@@ -2,7 +2,7 @@
 ghost use Rattle.std.specs.Prelude.{◌≡◌, ◌≤◌, ◌<◌, true, false, length, IfSome};
 
 use crate::forms::count_length;
-use crate::sign::{Kind, first_sign};
+use crate::sign::{Kind, first_kind, first_sign};
 use crate::spelling::{Spelling, is_capital_move, is_small_move};
 use crate::words::is_step_name;
 
@@ -234,12 +234,12 @@ fn spelled(text: &[u8], is_part: bool) -> (Seen, usize)
     requires { 0 < length text.now }
     ensures { (0 < result.1) × (result.1 ≤ length text.now) }
 {
-    let first = first_sign(text);
-    let mut seen = Seen::nothing().with(first.kind, text[0]);
-    let mut rest = &text[first.length..];
+    let mut seen = Seen::nothing();
+    let mut rest = text;
     while !rest.is_empty() {
         let sign = first_sign(rest);
-        if is_parting(sign.kind) || (is_part && is_joint(sign.kind, rest[0])) {
+        let is_end = is_parting(sign.kind) || (is_part && is_joint(sign.kind, rest[0]));
+        if is_end && rest.len() < text.len() {
             break;
         }
         seen = seen.with(sign.kind, rest[0]);
@@ -254,9 +254,10 @@ fn has_glued_moves(word: &[u8]) -> bool {
     let has_dash = word.iter().any(|byte| matches!(*byte, b'-' | b'/'));
     let mut rest = word;
     while !rest.is_empty() {
-        let sign = first_sign(rest);
-        if sign.kind == Kind::Inner || is_joint(sign.kind, rest[0]) {
-            rest = &rest[sign.length..];
+        let kind = first_kind(rest);
+        // the further bytes of a sign are Inner
+        if kind == Kind::Inner || is_joint(kind, rest[0]) {
+            rest = &rest[1..];
         } else {
             let (part, length) = spelled(rest, true);
             if part.is_glued(has_dash) {
