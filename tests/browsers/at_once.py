@@ -123,16 +123,16 @@ def more(tally: Tally, browser: Browser) -> None:
     )
 
 
-def folded(tally: Tally, browser: Browser) -> None:
-    """On a narrow page the filters of a list are folded, and a key opens them; a second way to a reduction has room."""
+def stands(tally: Tally, browser: Browser) -> None:
+    """On a narrow page the filter of a list stands there, and a key leads to it; a second way to a reduction has room."""
     room = """const top = (selector) => document.querySelector(selector).getBoundingClientRect().top;
         return top('#solutions-groups .take') - top('#solutions')"""
     browser.resize(360, 740)
-    browser.walk(tally, "they are folded", ("open", address_of(LONGER) + "&list=eorl.normal.0", {"filter?": False}))
+    browser.walk(tally, "it is seen", ("open", address_of(LONGER) + "&list=eorl.normal.0", {"filter?": True}))
     tally.holds(f"the first row is near the list's head: {browser.script(room)}", browser.script(room) < 360)
     browser.walk(
         tally,
-        "a key opens them",
+        "a key leads to it",
         ("script", "document.activeElement.blur()", {}),
         ("press", "/", {"filter?": True, "focus": "filter"}),
     )

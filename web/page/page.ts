@@ -186,7 +186,7 @@ export class Page {
     try {
       const { unread, parts, kept, doubt, doubted, undoing } = await this.#byHand.ask("readWritten", fmc);
       if (turn !== this.#turn) return;
-      const joined = withOthers(this.#state.kept, asCopied(kept, fmc.copied ?? []));
+      const joined = withOthers(this.#state.kept, asCopied(kept, fmc.copied ?? [], this.#state.kept));
       this.#change({ ...(parts.length > 0 && { parts }), kept: joined.kept }, { isStep: !isNew });
       tell(part("alert"), whyUnread(unread) || joined.why);
       // once, if it can be mended

@@ -22,11 +22,11 @@ export const areSaid = (candidates: Candidate[], lines: { line: string; note: st
   lines.length === candidates.length && candidates.every((each) =>
     lines.some(({ line, note }) => isSaid(each, line, note) && ownNote(note) === each.note));
 
-/** Lines that were read of a text: those that say what was kept are that, with their notes. */
-export const asCopied = (lines: Candidate[], copied: Candidate[]) => lines.map((each) => ({
+/** Lines that were read of a text: those that say what was kept are that. If it is no copy, one's own notes stay. */
+export const asCopied = (lines: Candidate[], copied: Candidate[], own: Candidate[]) => [...lines.map((each) => ({
   ...(copied.find((one) => isSaid(one, inOne(each.parts), each.note)) ?? each),
   note: ownNote(each.note).slice(0, LONGEST_NOTE),
-}));
+})), ...(copied.length > 0 ? [] : own)];
 
 /** What is kept once a line is starred, or no longer if it was. */
 export function withStar(candidates: Candidate[], parts: Part[], next: string): Candidate[] {
