@@ -365,22 +365,15 @@ pub fn whole_length(text: &[u8]) -> usize
     line + line_end_length(&text[line..])
 }
 
-/// Whether the first line of a text begins with the word that stands before a scramble.
-pub fn begins_with_head(text: &[u8]) -> bool {
+/// What tells the first line of a text from other scrambles.
+pub fn first_head(text: &[u8], numbers: Numbers) -> Head {
     let line = &text[..line_length(text)];
-    head_of(&line[margin(line)..], Numbers::OfLines).0 == Head::Word
-}
-
-/// Whether the first line of a text begins with a number that may tell scrambles apart.
-pub fn begins_with_number(text: &[u8], numbers: Numbers) -> bool {
-    let line = &text[..line_length(text)];
-    head_of(&line[margin(line)..], numbers).0 == Head::Number
+    head_of(&line[margin(line)..], numbers).0
 }
 
 /// Whether the first line of a text may begin an attempt: by a head, or as a whole scramble.
 pub fn may_begin(text: &[u8], numbers: Numbers) -> bool {
-    let line = &text[..line_length(text)];
-    head_of(&line[margin(line)..], numbers).0 != Head::None || has_frame(line)
+    first_head(text, numbers) != Head::None || has_frame(&text[..line_length(text)])
 }
 
 /// Whether a line, which is the first one of a text, names solutions and has no moves.

@@ -157,7 +157,7 @@ fn longer_sign(text: &[u8]) -> Sign
     }
 }
 
-/// The same where it is seldom asked for, in fewer bytes of code.
+/// The same, as a call: what asks for it seldom has fewer bytes of code so.
 #[inline(never)]
 pub fn one_sign(text: &[u8]) -> Sign
     requires { 0 < length text.now }

@@ -4,7 +4,7 @@ ghost use Rattle.std.specs.Prelude.{◌≤◌, ◌<◌, length};
 
 use crate::forms::{is_parted, line_length};
 use crate::line::{
-    Head, Line, Numbers, begins_with_head, begins_with_number, first_line, whole_length,
+    Head, Line, Numbers, first_head, first_line, whole_length,
 };
 use crate::sign::trimmed;
 use crate::words::{Wanted, says};
@@ -37,7 +37,7 @@ pub fn stretch_length(text: &[u8]) -> usize
     while !rest.is_empty() {
         let at = text.len() - rest.len();
         // lines are read only if a head follows them
-        if at > 0 && begins_with_head(rest) {
+        if at > 0 && first_head(rest, Numbers::OfLines) == Head::Word {
             has_moves = has_moves || has_open(&text[seen..at]);
             seen = at;
             if has_moves && first_line(rest, Numbers::OfLines).head_kind == Head::Word {
@@ -124,7 +124,7 @@ fn are_listed(text: &[u8], numbers: Numbers) -> bool {
 fn has_number(text: &[u8], numbers: Numbers) -> bool {
     let mut rest = text;
     while !rest.is_empty() {
-        if begins_with_number(rest, numbers) {
+        if first_head(rest, numbers) == Head::Number {
             return true;
         }
         rest = &rest[whole_length(rest)..];

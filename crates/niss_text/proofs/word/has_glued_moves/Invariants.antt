@@ -1,4 +1,4 @@
-use Rattle.std.proofs.Common.{◌≤◌, length}
+use Rattle.std.proofs.Common.{length}
 use Rattle.niss_text.proofs.word.has_glued_moves.Given as goal
 
 abbrev pub decreases-loop-rest : goal.decreases-loop-rest
