@@ -42,12 +42,14 @@ enum nissy_line_kind {
 /* What makes one doubt that a line is read as it was meant. */
 enum nissy_doubt {
     NISSY_NO_DOUBT = 0,
-    NISSY_ANOTHER_SCRAMBLE = 1,  /* after all of a scramble the line goes on; of a check: another one stands beside a known scramble's solution */
+    NISSY_ANOTHER_SCRAMBLE = 1,  /* moves stand before or after all of a scramble, or it has no steps and others of the text begin and end with
+                                  * R' U' F; of a check: it has no solution, and by itself is solved, or another one stands beside a known
+                                  * scramble's solution */
     NISSY_SEVERAL_SOLUTIONS = 2, /* which of several groups is the solution can't be seen, or a list has those of several scrambles */
     NISSY_SIDE = 3,              /* another side than the normal one is named, such as the inverse, and the moves have no brackets */
     NISSY_LETTERS = 4,           /* letters stand together as moves don't elsewhere in the line, such as F2L or xD */
     NISSY_SMALL_LETTERS = 5,     /* a scramble has a turn in a small letter, or a step has no others */
-    NISSY_COMMENT = 6,           /* three moves stand one after another in a comment of a step */
+    NISSY_COMMENT = 6,           /* three moves stand one after another in a comment of a step, or a letter before one, as in "R U layer" */
     NISSY_REPETITION = 7,        /* moves are said to be made several times, as in "(R U)x2", at the end of a step "R U x2", or in a comment */
     NISSY_INSERTION = 8          /* a step has a mark at which others belong, such as "[1]" between moves or "*" after them, or tells what belongs
                                   * there, as "* = R U"; or it is said that moves are inserted */

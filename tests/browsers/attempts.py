@@ -43,7 +43,7 @@ OF_A_STEP = (
         "as a whole this doesn't solve the scramble, but a part of it does",
         0,
     ),
-    ("R U F\n\nD\nF' // EO U' R' D", "D F'", "moves stand in a comment, and are left out", 1),
+    ("R U F\n\nD\nF' // EO U' R' D", "D F'", "moves and a comment may be taken for each other", 1),
 )
 # other texts in doubt: the text, the scramble, what is said, the sign that is marked, and how many stand before it
 DOUBTS = (
@@ -54,7 +54,7 @@ DOUBTS = (
         "D",
         11,
     ),
-    ("R' U' F D R' U' F R U", "R' U' F D R' U' F R U", "a whole scramble begins here, and more follows it", "R", 0),
+    ("R' U' F D R' U' F R U", "R' U' F D R' U' F R U", "this may be more than a scramble, or none", "R", 0),
 )
 SHEET = (
     "Hello!\nScramble 1 of 3\nR U F\nD // EO\n\nL2\n// a note\n\nScramble 2 of 3\nF' L2, U\nScramble 3 of 3\nB2 R q\n"

@@ -48,6 +48,13 @@ abbrev pub first_doubt : List TextLine → Doubt
 first_doubt [] = no_doubt
 first_doubt (line ∷ lines) = if line.doubt == 0 then first_doubt lines else doubt line.doubt line.doubt_at
 
+-- What makes one doubt the reading of an attempt with this scramble: its lines, or that it has no solution, and its scramble
+-- by itself is solved, so that the solution may stand in it.
+abbrev pub own_doubt : List TextLine → (scramble places : List ℕ) → Doubt
+own_doubt lines scramble places =
+    if ((first_doubt lines).reason == 0) && (not (list_any (is_wanted Solution) lines) && (check_of scramble []).solved)
+    then doubt 1 (get_or places 0 no_place) else first_doubt lines
+
 -- where the fault stands that a check tells of a scramble or a solution, by the places of both
 abbrev pub fault_place : CheckAnswer → (scramble_places solution_places : List ℕ) → ℕ
 fault_place check scramble_places solution_places =
@@ -93,7 +100,7 @@ pub record IsOwn (text : List ℕ) (lines : List TextLine) (it : Judged) : Type 
   pub scramble : List ℕ
   pub places : List ℕ
   pub is_scramble : AreWritten text Scramble lines scramble places
-  pub is_checked : IsChecked text lines scramble places (first_doubt lines) it
+  pub is_checked : IsChecked text lines scramble places (own_doubt lines scramble places) it
 
 -- the line before those that belong together, which it does too if it is of the same attempt
 abbrev pub with_line : TextLine → List (List TextLine) → List (List TextLine)

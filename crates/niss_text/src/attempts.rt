@@ -2,9 +2,10 @@
 ghost use Rattle.std.specs.Prelude.{◌≡◌, ◌≤◌, ◌<◌, ◌+◌, length, take, drop, set};
 ghost use Rattle.niss_text.specs.Lines.{IsLine, Covers, Counts, Takes, AreNumbered, Begins, BeginNumbered};
 
-use crate::doubts::judged;
+use crate::body::is_whole_scramble;
+use crate::doubts::{Sheet, judged};
 use crate::groups::{Group, Solutions};
-use crate::line::{Line, Numbers, cut_line, first_line, whole_length};
+use crate::line::{Line, Numbers, cut_line};
 use crate::outline::{is_head, length_behind_scramble, outline_of};
 use crate::status::Status;
 use crate::stretches::{has_extras, numbers_of, stretch_length};
@@ -22,17 +23,6 @@ pub struct TextAnswer {
     pub attempts: usize,
 }
 
-/// What tells which of the groups after a scramble is the solution.
-fn solutions_of(text: &[u8], numbers: Numbers) -> Solutions {
-    let mut rest = text;
-    let mut seen = Solutions::none();
-    while !rest.is_empty() {
-        seen = seen.after(&first_line(rest, numbers));
-        rest = &rest[whole_length(rest)..];
-    }
-    seen
-}
-
 /// An attempt: where its lines of moves, its scramble and its last line end, and what is said of it.
 #[derive(Clone, Copy)]
 struct Attempt {
@@ -40,6 +30,8 @@ struct Attempt {
     numbers: Numbers,
     /// Prose before its scramble is told from it: it has a name, or steps.
     is_formed: bool,
+    /// Nothing solves its scramble, which isn't whole, though another of the text is.
+    is_strange: bool,
     solution: Option<usize>,
     first: usize,
     scramble_end: usize,
@@ -48,8 +40,9 @@ struct Attempt {
     ghost scramble_in: { scramble_end ≤ length },
 }
 
-/// The first attempt of a stretch. What follows an attempt and has no moves is notes of that one.
-fn first_attempt(text: &[u8], numbers: Numbers, number: usize) -> Attempt
+/// The first attempt of a stretch of a text, which has whole scrambles or not. What follows an attempt and has no moves is
+/// notes of that one.
+fn first_attempt(text: &[u8], numbers: Numbers, number: usize, has_whole: bool) -> Attempt
     ensures within { result.length ≤ length text.now }
     ensures some { 0 < length text.now → 0 < result.length }
     ensures number { result.number ≡ number }
@@ -57,11 +50,12 @@ fn first_attempt(text: &[u8], numbers: Numbers, number: usize) -> Attempt
     let seen = outline_of(text, numbers);
     let lines = &text[..seen.length];
     let scramble_end = seen.scramble_end(lines, numbers);
-    let solutions = solutions_of(&lines[scramble_end..], numbers);
+    let solutions = Solutions::seen_in(&lines[scramble_end..], numbers);
     Attempt {
         number,
         numbers,
         is_formed: seen.has_name || solutions.has_lines,
+        is_strange: has_whole && !seen.is_whole() && !solutions.has_moves(),
         solution: if seen.has_several {
             None
         } else {
@@ -74,6 +68,14 @@ fn first_attempt(text: &[u8], numbers: Numbers, number: usize) -> Attempt
 }
 
 impl Attempt {
+    /// What is seen of it for the doubts of its lines.
+    fn sheet(&self) -> Sheet {
+        Sheet {
+            has_solution: self.solution.is_some(),
+            is_strange: self.is_strange,
+        }
+    }
+
     /// What a line of it is, which begins there. A head alone before the moves says nothing more.
     fn kind_at(&self, at: usize, line: &Line) -> LineKind {
         if line.is_blank || (at < self.first && line.is_head_alone) {
@@ -150,7 +152,7 @@ fn put_attempt(
         }
         let role = role_of(attempt, &line, attempt.kind_at(at, &line), group.number);
         let told = told_line(&role, &line, begin + at);
-        let told = judged(text, told, &line, attempt.solution.is_some());
+        let told = judged(text, told, &line, attempt.sheet());
         put_line(lines, count, told);
         count += 1;
         at += whole;
@@ -207,7 +209,9 @@ pub fn put_attempts(text: &[u8], end: usize, so_far: Progress, lines: &mut [Text
         so_far.attempts ≤ so_far.at → BeginNumbered (take so_far.lines lines.old) → BeginNumbered (take result.lines lines.new) }
     ensures behind { drop result.lines lines.new ≡ drop result.lines lines.old }
 {
-    let has_extras = has_extras(&text[so_far.at.min(end)..end]);
+    let part = &text[so_far.at.min(end)..end];
+    let has_extras = has_extras(part);
+    let has_whole = is_whole_scramble(part);
     let mut stretch_end = 0;
     let mut numbers = Numbers::OfLines;
     let mut at = so_far.at;
@@ -218,7 +222,7 @@ pub fn put_attempts(text: &[u8], end: usize, so_far: Progress, lines: &mut [Text
             stretch_end = at + stretch_length(&text[at..end]);
             numbers = numbers_of(&text[at..stretch_end], has_extras);
         }
-        let attempt = first_attempt(&text[at..stretch_end], numbers, attempts);
+        let attempt = first_attempt(&text[at..stretch_end], numbers, attempts, has_whole);
         let (more, next) = put_attempt(text, at, &attempt, lines, count);
         count = more;
         at = next;
@@ -267,7 +271,8 @@ fn solution_alone(text: &[u8]) -> Attempt
         number: 0,
         numbers,
         is_formed: true,
-        solution: solutions_of(text, numbers).group(),
+        is_strange: false,
+        solution: Solutions::seen_in(text, numbers).group(),
         first: 0,
         scramble_end: 0,
         length: text.len(),

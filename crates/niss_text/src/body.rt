@@ -85,7 +85,7 @@ fn ends_with_frame(text: &[u8]) -> bool {
 }
 
 /// Whether the letter of a turn before a text is all of its move: no apostrophe, w or 2 follows.
-fn is_whole_move_before(text: &[u8]) -> bool {
+pub fn is_whole_move_before(text: &[u8]) -> bool {
     let is_longer = !text.is_empty() && matches!(text[0], b'w' | b'2');
     !first_kind(text).is_prime() && !is_longer
 }
@@ -141,10 +141,10 @@ fn has_two_frames(text: &[u8]) -> bool {
     false
 }
 
-/// Whether a line begins as all of a scramble does, and goes on after its end.
-pub fn goes_on_behind_scramble(body: &[u8]) -> bool {
+/// Whether turns stand in a line before or after all of a scramble.
+pub fn has_more_than_scramble(body: &[u8]) -> bool {
     match behind_frame(trimmed(body)) {
         Some(rest) => (has_frame(rest) && !ends_with_frame(rest)) || has_two_frames(rest),
-        None => false,
+        None => is_whole_scramble(body),
     }
 }

@@ -5,10 +5,10 @@ ghost use Rattle.niss_text.specs.Lines.{IsLine};
 ghost use Rattle.niss_text.specs.declared.doubts.Doubt.TheVariants.{Nothing, Letters, SmallLetters};
 ghost use Rattle.niss_text.specs.declared.sights.Sight.TheVariants.{Small, Capital, Joined, Repeated, Marked};
 
-use crate::body::goes_on_behind_scramble;
+use crate::body::has_more_than_scramble;
 use crate::forms::has_bracket;
 use crate::line::Line;
-use crate::marks::{defined_mark, is_mark, times_at_end, times_said};
+use crate::marks::{defined_mark, is_mark, letter_of_words, times_at_end, times_said};
 use crate::sights::{Sight, first_seen, is_letter};
 use crate::text_line::{LineKind, TextLine};
 use crate::word::has_three_moves;
@@ -18,7 +18,7 @@ use crate::words::{Topic, Wanted, first_topic, is_normal_side, says, word_length
 #[derive(Clone, Copy, PartialEq, Eq)]
 pub enum Doubt {
     Nothing,
-    /// After all of a scramble the line goes on.
+    /// The line has more than a scramble, or may be none: it is unlike others of the text, and has no steps.
     AnotherScramble,
     /// Which of several groups is the solution can't be told, or a list has those of several scrambles.
     SeveralSolutions,
@@ -28,12 +28,21 @@ pub enum Doubt {
     Letters,
     /// A scramble has a move in a small letter, or a step has no others.
     SmallLetters,
-    /// Three moves or more stand one after another in a comment.
+    /// Three moves or more stand one after another in a comment, or a letter before one may be of its words.
     Comment,
     /// Moves are said to be made several times.
     Repetition,
     /// Moves are said to belong into others, or a mark stands where they do.
     Insertion,
+}
+
+/// What is seen of the attempt of a line.
+#[derive(Clone, Copy)]
+pub struct Sheet {
+    /// A group of it is the solution.
+    pub has_solution: bool,
+    /// Its scramble isn't written as others of the text, and it has no steps.
+    pub is_strange: bool,
 }
 
 impl Doubt {
@@ -196,6 +205,12 @@ fn doubt_of_step(text: &[u8], told: &TextLine, slashes: usize, has_solution: boo
     if is_mark(&text[told.comment..slashes]) {
         return (Doubt::Insertion, told.comment);
     }
+    if let Some(at) = letter_of_words(
+        &text[told.moves..told.comment],
+        &text[told.comment..slashes],
+    ) {
+        return (Doubt::Comment, told.moves + at);
+    }
     let marked = first_seen(text, told.moves + 1, told.comment, Sight::Marked);
     if marked < told.comment {
         return (Doubt::Insertion, marked);
@@ -208,7 +223,7 @@ fn doubt_of_step(text: &[u8], told: &TextLine, slashes: usize, has_solution: boo
 }
 
 /// What makes one doubt a line of moves, and where.
-fn doubt_of_moves(text: &[u8], told: &TextLine, line: &Line, has_solution: bool) -> (Doubt, usize)
+fn doubt_of_moves(text: &[u8], told: &TextLine, line: &Line, sheet: Sheet) -> (Doubt, usize)
     requires line { IsLine told.now.begin told.now }
     requires fits { told.now.end ≤ length text.now }
     requires same { told.now.begin + line.now.length ≡ told.now.end }
@@ -242,20 +257,20 @@ fn doubt_of_moves(text: &[u8], told: &TextLine, line: &Line, has_solution: bool)
         return (Doubt::Repetition, repeated);
     }
     if !told.is_a(LineKind::Scramble) {
-        return doubt_of_step(text, told, slashes, has_solution);
+        return doubt_of_step(text, told, slashes, sheet.has_solution);
     }
     let small = first_seen(text, told.moves, told.comment, Sight::Small);
     if small < told.comment {
         return (Doubt::SmallLetters, small);
     }
-    if goes_on_behind_scramble(&text[told.moves..told.comment]) {
+    if sheet.is_strange || has_more_than_scramble(&text[told.moves..told.comment]) {
         return (Doubt::AnotherScramble, told.moves);
     }
     (Doubt::Nothing, told.end)
 }
 
 /// What makes one doubt a line, and where: of its scramble, or of its solution if that can be told.
-fn doubt_of(text: &[u8], told: &TextLine, line: &Line, has_solution: bool) -> (Doubt, usize)
+fn doubt_of(text: &[u8], told: &TextLine, line: &Line, sheet: Sheet) -> (Doubt, usize)
     requires line { IsLine told.now.begin told.now }
     requires fits { told.now.end ≤ length text.now }
     requires same { told.now.begin + line.now.length ≡ told.now.end }
@@ -279,10 +294,10 @@ fn doubt_of(text: &[u8], told: &TextLine, line: &Line, has_solution: bool) -> (D
     ensures unmarked { result.0 ≡ Nothing → told.now.kind ≡ 3 → told.now.is_solution ≡ 1 → HasNone text.now Marked (told.now.moves + 1) told.now.comment }
 {
     if told.is_a(LineKind::Scramble) {
-        return doubt_of_moves(text, told, line, has_solution);
+        return doubt_of_moves(text, told, line, sheet);
     }
     let is_after = told.is_a(LineKind::Step) || told.is_a(LineKind::Note);
-    if !is_after || (has_solution && told.is_solution == 0) {
+    if !is_after || (sheet.has_solution && told.is_solution == 0) {
         return (Doubt::Nothing, told.end);
     }
     let said = doubt_said(text, told);
@@ -290,7 +305,7 @@ fn doubt_of(text: &[u8], told: &TextLine, line: &Line, has_solution: bool) -> (D
         return said;
     }
     if told.is_a(LineKind::Step) {
-        return doubt_of_moves(text, told, line, has_solution);
+        return doubt_of_moves(text, told, line, sheet);
     }
     (Doubt::Nothing, told.end)
 }
@@ -309,9 +324,9 @@ fn is_inverse(text: &[u8], told: &TextLine) -> bool
         && !has_bracket(&text[told.moves..told.comment])
 }
 
-/// A line of a text with what makes one doubt it. `has_solution`: a group of its attempt is the solution.
+/// A line of a text with what makes one doubt it.
 #[tactic(auto, using(crate::proofs::DoubtLemmas::is_nothing, crate::proofs::DoubtLemmas::is_letters, crate::proofs::DoubtLemmas::is_small_letters))]
-pub fn judged(text: &[u8], told: TextLine, line: &Line, has_solution: bool) -> TextLine
+pub fn judged(text: &[u8], told: TextLine, line: &Line, sheet: Sheet) -> TextLine
     requires line { IsLine told.begin told }
     requires fits { told.end ≤ length text.now }
     requires same { told.begin + line.now.length ≡ told.end }
@@ -321,7 +336,7 @@ pub fn judged(text: &[u8], told: TextLine, line: &Line, has_solution: bool) -> T
     ensures attempt { result.attempt ≡ told.attempt }
     ensures doubt { IsDoubted text.now result }
 {
-    let (doubt, at) = doubt_of(text, &told, line, has_solution);
+    let (doubt, at) = doubt_of(text, &told, line, sheet);
     TextLine {
         is_inverse: u8::from(is_inverse(text, &told)),
         doubt: doubt.number(),

@@ -1,7 +1,10 @@
 //! The groups of lines after a scramble: those directly under it, and the blocks after blank lines.
 ghost use Rattle.std.specs.Prelude.{◌≤◌, ◌<◌};
 
-use crate::line::Line;
+use crate::body::is_whole_move_before;
+use crate::line::{Line, Numbers, first_line, whole_length};
+use crate::sights::is_capital;
+use crate::sign::trimmed;
 
 /// The group of the last line, and what is seen of it.
 #[derive(Clone, Copy)]
@@ -53,6 +56,53 @@ impl Group {
     }
 }
 
+/// How many turns a solution has at least that is written out.
+const FEWEST_TURNS: usize = 12;
+
+/// How many letters of turns a text has.
+fn turns_in(text: &[u8]) -> usize {
+    let mut count: usize = 0;
+    for byte in text {
+        if is_capital(*byte) {
+            count = count.saturating_add(1);
+        }
+    }
+    count
+}
+
+/// Whether moves begin with others, however blanks part them, and then go on.
+fn begin_with(moves: &[u8], others: &[u8]) -> bool {
+    let mut rest = moves;
+    for byte in others {
+        if matches!(*byte, b' ' | b'\t') {
+            continue;
+        }
+        rest = trimmed(rest);
+        if rest.is_empty() || rest[0] != *byte {
+            return false;
+        }
+        rest = &rest[1..];
+    }
+    is_whole_move_before(rest)
+}
+
+/// Whether the last moves of some lines after a scramble are the whole solution: they begin with those of the first line,
+/// and are many.
+fn ends_written_out(text: &[u8], numbers: Numbers) -> bool {
+    let mut first: &[u8] = &[];
+    let mut last: &[u8] = &[];
+    let mut rest = text;
+    while !rest.is_empty() {
+        let line = first_line(rest, numbers);
+        if line.is_moves {
+            last = &rest[line.moves..line.comment];
+            first = if first.is_empty() { last } else { first };
+        }
+        rest = &rest[whole_length(rest)..];
+    }
+    turns_in(last) >= FEWEST_TURNS && begin_with(last, first)
+}
+
 /// What tells which group is the solution.
 #[derive(Clone, Copy)]
 pub struct Solutions {
@@ -63,6 +113,10 @@ pub struct Solutions {
     /// How many groups after the first have moves, two at most, and the last of them.
     listed: u8,
     last_listed: usize,
+    /// That one has one line with moves, of which nothing is said.
+    is_line: bool,
+    /// That line is the solution written out.
+    is_written_out: bool,
     /// How many lines say that the solution follows, two at most, and of the last which group it is in, and whether it
     /// is the final one.
     told: u8,
@@ -71,14 +125,29 @@ pub struct Solutions {
 }
 
 impl Solutions {
+    /// After the lines of a text that follow a scramble.
+    pub fn seen_in(text: &[u8], numbers: Numbers) -> Solutions {
+        let mut rest = text;
+        let mut seen = Solutions::none();
+        while !rest.is_empty() {
+            seen = seen.after(&first_line(rest, numbers));
+            rest = &rest[whole_length(rest)..];
+        }
+        let may_be_written_out = seen.is_under && seen.listed == 1 && seen.is_line;
+        seen.is_written_out = may_be_written_out && ends_written_out(text, numbers);
+        seen
+    }
+
     /// Before the first line after a scramble.
-    pub fn none() -> Solutions {
+    fn none() -> Solutions {
         Solutions {
             group: Group::first(),
             has_lines: false,
             is_under: false,
             listed: 0,
             last_listed: 0,
+            is_line: false,
+            is_written_out: false,
             told: 0,
             last_told: 0,
             is_final: false,
@@ -86,12 +155,12 @@ impl Solutions {
     }
 
     /// After one more line.
-    pub fn after(self, line: &Line) -> Solutions {
+    fn after(self, line: &Line) -> Solutions {
         let mut seen = self;
         seen.group = self.group.after(line);
         seen.has_lines = self.has_lines || !line.is_blank;
         if line.is_moves {
-            seen = seen.with_moves();
+            seen = seen.with_moves(line.is_told());
         }
         if line.is_solution {
             seen.told = if self.told == 0 { 1 } else { 2 };
@@ -101,8 +170,13 @@ impl Solutions {
         seen
     }
 
-    /// With moves in the group.
-    fn with_moves(self) -> Solutions {
+    /// Whether there are moves.
+    pub fn has_moves(&self) -> bool {
+        self.is_under || self.listed > 0
+    }
+
+    /// With moves in the group, of which something is said or not.
+    fn with_moves(self, is_told: bool) -> Solutions {
         let mut seen = self;
         let number = self.group.number;
         if number == 0 {
@@ -110,12 +184,16 @@ impl Solutions {
         } else if self.listed == 0 || self.last_listed != number {
             seen.listed = if self.listed == 0 { 1 } else { 2 };
             seen.last_listed = number;
+            seen.is_line = !is_told;
+        } else {
+            seen.is_line = false;
         }
         seen
     }
 
     /// The group that is the solution: the one that a label says to be, of several the last one if it is the final one;
-    /// without labels the lines directly under the scramble, else the only group.
+    /// without labels the lines directly under the scramble, or the line after them that is the solution written out; else
+    /// the only group.
     pub fn group(self) -> Option<usize> {
         if self.told == 1 || (self.told > 1 && self.is_final) {
             return Some(self.last_told);
@@ -123,7 +201,7 @@ impl Solutions {
         if self.told > 1 {
             return None;
         }
-        if self.is_under {
+        if self.is_under && !self.is_written_out {
             return Some(0);
         }
         if self.listed == 1 {

@@ -1,8 +1,10 @@
-//! Signs by which solvers have moves made several times, or put into others: of a number of times, and marks.
+//! Signs by which solvers have moves made several times, or put into others: of a number of times, and marks; and letters
+//! that may be of the words after moves.
 ghost use Rattle.std.specs.Prelude.{◌≤◌, ◌<◌, length, IfSome};
 
 use crate::sights::is_letter;
 use crate::sign::{is_digit_byte, trimmed};
+use crate::words::names_place;
 
 /// Whether a text begins with a number of times, such as `x2` or `2x`.
 fn begins_times(text: &[u8]) -> bool {
@@ -36,12 +38,26 @@ fn last_word(moves: &[u8]) -> usize
     let mut begin = 0;
     let mut is_parted = true;
     for (at, byte) in moves.iter().enumerate() {
-        if *byte != b' ' && is_parted {
+        let is_blank = matches!(*byte, b' ' | b'\t');
+        if !is_blank && is_parted {
             begin = at;
         }
-        is_parted = *byte == b' ';
+        is_parted = is_blank;
     }
     begin
+}
+
+/// Where moves end with a letter by itself that may be of the words after them, such as `U layer`.
+pub fn letter_of_words(moves: &[u8], words: &[u8]) -> Option<usize>
+    ensures { IfSome result (λ at. at ≤ length moves.now) }
+{
+    let begin = last_word(moves);
+    let word = &moves[begin..];
+    let is_letter_alone = !word.is_empty() && is_letter(word[0]) && trimmed(&word[1..]).is_empty();
+    if is_letter_alone && names_place(words) {
+        return Some(begin);
+    }
+    None
 }
 
 /// Where moves end with a turn of the cube that may say how many times they are made, such as `x2`.

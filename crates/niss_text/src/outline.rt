@@ -169,6 +169,11 @@ impl Outline {
         }
     }
 
+    /// Whether it has a whole scramble.
+    pub fn is_whole(&self) -> bool {
+        self.whole > 0
+    }
+
     /// If the attempt has that many bytes.
     fn ended(self, length: usize) -> Outline
         requires { self.first ≤ length }

@@ -3,9 +3,7 @@
 ghost use Rattle.std.specs.Prelude.{◌≤◌, ◌<◌, length};
 
 use crate::forms::{is_parted, line_length};
-use crate::line::{
-    Head, Line, Numbers, first_head, first_line, whole_length,
-};
+use crate::line::{Head, Line, Numbers, first_head, first_line, whole_length};
 use crate::sign::trimmed;
 use crate::words::{Wanted, says};
 

@@ -92,6 +92,15 @@ pub fn is_step_name(word: &[u8]) -> bool {
     fits_one_of(word, b"eo,dr,htr,fr,finish,skeleton,slice", true)
 }
 
+/// Whether a text begins with a word before which solvers name a place of the cube, or a case, by a letter.
+pub fn names_place(text: &[u8]) -> bool {
+    fits_one_of(
+        text,
+        b"slice,layer,face,side,axis,edge,corner,bar,perm,case,auf",
+        false,
+    )
+}
+
 /// Whether a text has a word of such.
 #[inline(never)]
 pub fn says(text: &[u8], wanted: Wanted) -> bool {

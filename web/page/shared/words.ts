@@ -110,7 +110,7 @@ type Turns = { turns: string; undoing: string };
 
 /** What is said of a doubt that a text is read as it was meant, and of the word there, with the turns named by it. */
 const WORDS_OF_DOUBTS: Record<string, (word: string, named: Turns | null) => string> = {
-  "another scramble": () => "a whole scramble begins here, and more follows it",
+  "another scramble": () => "this may be more than a scramble, or none",
   "several solutions": () => "of several solutions none is said to be the one that counts",
   side: (word, named) => {
     if (!/^pre-?mov/i.test(word)) return `“${word}” names a side, and its moves may belong on the other one`;
@@ -120,7 +120,7 @@ const WORDS_OF_DOUBTS: Record<string, (word: string, named: Turns | null) => str
   },
   letters: (word) => `“${word}” is read as moves`,
   "small letters": (word) => `“${word}” is read as a wide turn: face turns have capital letters`,
-  comment: () => "moves stand in a comment, and are left out",
+  comment: () => "moves and a comment may be taken for each other",
   repetition: (word) => `“${word}” may say that moves are made several times, and they are read once`,
   insertion: (word) =>
     `“${word}” may say that moves belong into others, and they are read in the order of the text`,
