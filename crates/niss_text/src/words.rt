@@ -135,7 +135,10 @@ pub enum Topic {
 pub fn first_topic(text: &[u8], before: &[u8]) -> Option<Topic> {
     let is_beyond = !text.is_empty() && text[0] >= 0x80;
     let sides = if is_beyond { SIDES_BEYOND } else { SIDES };
-    if fits_one_of(text, sides, false) || is_letter_of_inverse(text, before) {
+    if fits_one_of(text, sides, false)
+        || is_letter_of_inverse(text, before)
+        || is_short_side(text)
+    {
         Some(Topic::Side)
     } else if fits_one_of(text, REPETITIONS, false) {
         Some(Topic::Repetition)
@@ -146,14 +149,14 @@ pub fn first_topic(text: &[u8], before: &[u8]) -> Option<Topic> {
     }
 }
 
-/// Letters by which solvers name another side of the cube than the normal one, on which moves are read anyway, or a change
-/// of it.
+/// Letters by which solvers name another side of the cube than the normal one, on which moves are read anyway, moves before
+/// the others that belong to it, or a change of it.
 const SIDES: &[u8] =
-    b"inv,niss,premov,pre-mov,switch,side,revers,backward,back to normal,r\xc3\xbcck,odwr";
+    b"inv,niss,premo,pre-mo,pre mo,pr\xc3\xa9,setup mo,undo,switch,side,revers,backward,back to normal,r\xc3\xbcck,odwr,andere seite,vorz,envers,rev\xc3\xa9s,previos,przedr,preruch,omge,andersom,ters,omv,bakl,ford";
 
 /// The same in Russian, without the first letter, which may be a capital, in Chinese and Japanese, and in Korean.
 const SIDES_BEYOND: &[u8] =
-    b"\xd0\xbd\xd0\xb2\xd0\xb5\xd1\x80\xd1\x81,\xd0\xb1\xd1\x80\xd0\xb0\xd1\x82\xd0\xbd,\xe9\x80\x86,\xec\x97\xad,\xec\x9d\xb8\xeb\xb2\x84\xec\x8a\xa4";
+    b"\xd0\xbd\xd0\xb2\xd0\xb5\xd1\x80\xd1\x81,\xd0\xb1\xd1\x80\xd0\xb0\xd1\x82\xd0\xbd,\xd1\x80\xd0\xb5\xd0\xbc\xd1\x83\xd0\xb2,\xe9\x80\x86,\xe5\x8f\x8d,\xe5\x89\x8d\xe7\xbd\xae,\xe9\xa2\x84\xe5\x8a\xa8,\xe4\xba\x8b\xe5\x89\x8d,\xec\x97\xad,\xeb\xb0\x98\xeb\x8c\x80,\xec\x9d\xb8\xeb\xb2\x84\xec\x8a\xa4,\xed\x94\x84\xeb\xa6\xac\xeb\xac\xb4";
 
 /// Letters by which solvers say that moves are made several times.
 const REPETITIONS: &[u8] = b"twice,thrice,times,again,once more,repeat";
@@ -178,6 +181,12 @@ fn is_letter_of_inverse(text: &[u8], before: &[u8]) -> bool {
     }
     let is_last = matches!(first_kind(after), Kind::Colon | Kind::Close | Kind::LineEnd);
     is_last && (text[0] == b'I' || before.is_empty() || before[before.len() - 1] < 0x80)
+}
+
+/// Whether a text begins with a short word for moves before others, or for another side.
+fn is_short_side(text: &[u8]) -> bool {
+    let letters = length_of(text, Class::Letters);
+    fits_one_of(&text[..letters], b"pre,rev,sw", true)
 }
 
 /// Whether a text begins with the word for a side, after what ends with "normal" and a sign: that is the side on which
