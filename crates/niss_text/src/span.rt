@@ -153,7 +153,7 @@ impl Frame {
             Word::Said => self.with_said().with_words(begin, end),
             Word::Glued => self.with_said().without_lead(),
             Word::Mark => self.with_words(begin, end),
-            Word::Stamp if self.is_lead => self.with_words(begin, end),
+            Word::Stamp => self.with_words(begin, end),
             Word::Total if !self.is_lead => self.with_words(begin, end),
             Word::Open => self.opened(begin),
             Word::Close => self.closed(end),

@@ -25,11 +25,11 @@ pub enum Word {
     Glued,
     /// Signs without letters and digits, such as `->`.
     Mark,
-    /// Digits with other signs, such as `0:12`.
+    /// Digits with other signs, such as `0:12` or `4/9`.
     Stamp,
-    /// A digit, or digits with apostrophes, without a letter.
+    /// 2 or 3, or digits with apostrophes, without a letter.
     Number,
-    /// Two digits or more, which count moves: one by itself may be of a move.
+    /// A number that counts moves: 2 and 3 may be of one.
     Total,
     /// A letter that spells no move, such as `Q` or `Ri`.
     Other,
@@ -102,6 +102,8 @@ struct Seen {
     most: u8,
     has_prime: bool,
     has_digit: bool,
+    /// One that says how often no move is made.
+    has_other_digit: bool,
     has_mark: bool,
     is_beyond: bool,
     /// Its first letter is a capital of a move, and its second a small one or beyond ASCII: a slip rather than a name.
@@ -118,6 +120,7 @@ impl Seen {
             most: 0,
             has_prime: false,
             has_digit: false,
+            has_other_digit: false,
             has_mark: false,
             is_beyond: false,
             is_slip: false,
@@ -140,6 +143,8 @@ impl Seen {
         if is_capital_move(byte) {
             seen.capitals = up_to_three(self.capitals);
         }
+        seen.has_other_digit = self.has_other_digit
+            || (kind == Kind::Digit && !matches!(byte, b'2' | b'3'));
         seen.with_letter(kind).with_sign(kind)
     }
 
@@ -204,7 +209,7 @@ impl Seen {
             Word::Said
         } else if self.most > 0 {
             Word::Other
-        } else if !self.has_prime && !self.has_mark && self.signs > 1 {
+        } else if !self.has_prime && !self.has_mark && (self.signs > 1 || self.has_other_digit) {
             Word::Total
         } else if self.has_prime || !self.has_mark {
             Word::Number
@@ -287,7 +292,8 @@ fn short_word(text: &[u8]) -> Option<(Word, usize)>
         return match text[0] {
             _ if is_move => Some((Word::Move, 1)),
             b'A'..=b'Z' | b'a'..=b'z' => Some((Word::Other, 1)),
-            b'0'..=b'9' => Some((Word::Number, 1)),
+            b'2' | b'3' => Some((Word::Number, 1)),
+            b'0'..=b'9' => Some((Word::Total, 1)),
             _ => None,
         };
     }
