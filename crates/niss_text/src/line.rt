@@ -261,7 +261,7 @@ fn line_behind(line: &[u8], head_kind: Head, head: usize) -> Line
     let parts = parts_of(line, head);
     let label = &line[parts.label_begin..parts.label_end];
     let body = &line[parts.moves..parts.comment];
-    let is_solution = has_word(label, b"solution");
+    let is_solution = says(label, Wanted::Solution);
     let has_words = head_kind == Head::Word || parts.comment < line.len();
     Line {
         head_kind,

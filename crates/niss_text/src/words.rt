@@ -70,6 +70,8 @@ pub fn is_other_side(word: &[u8]) -> bool {
 pub enum Wanted {
     /// What solvers call a step.
     Step,
+    /// What solvers call a solution.
+    Solution,
     /// The inverse, for the side of the moves.
     Inverse,
     /// What makes the inverse something else than the side of these moves.
@@ -81,11 +83,16 @@ impl Wanted {
     fn has(self, word: &[u8]) -> bool {
         match self {
             Wanted::Step => is_step_name(word),
+            Wanted::Solution => fits_one_of(word, SOLUTIONS, true),
             Wanted::Inverse => fits_one_of(word, b"inverse,inv", true),
             Wanted::Switch => fits_one_of(word, b"normal,niss,switch,premove,premoves", true),
         }
     }
 }
+
+/// What solvers call a solution, or what they wrote down for the judge. Only letters of ASCII may be capital ones.
+const SOLUTIONS: &[u8] =
+    b"solution,submitted,written,l\xc3\xb6sung,l\xc3\xb6sning,soluci\xc3\xb3n,solucion,soluzione,solu\xc3\xa7\xc3\xa3o,solucao,rozwi\xc4\x85zanie,oplossing,\xc3\xa7\xc3\xb6z\xc3\xbcm,\xc3\x87\xc3\xb6z\xc3\xbcm,\xd1\x80\xd0\xb5\xd1\x88\xd0\xb5\xd0\xbd\xd0\xb8\xd0\xb5,\xd0\xa0\xd0\xb5\xd1\x88\xd0\xb5\xd0\xbd\xd0\xb8\xd0\xb5,\xe8\xa7\xa3\xe6\xb3\x95,\xe8\xa7\xa3\xe7\xad\x94,\xed\x92\x80\xec\x9d\xb4";
 
 /// Whether solvers call a step so.
 pub fn is_step_name(word: &[u8]) -> bool {
