@@ -80,7 +80,8 @@ fn kind_of_two(first: u8, second: u8) -> Option<Kind>
 {
     match (first, second) {
         (b'\r', b'\n') => Some(Kind::LineEnd),
-        (0xc2, 0xa0) => Some(Kind::Blank),
+        // a dot in the middle of the line stands between moves as a blank does
+        (0xc2, 0xa0 | 0xb7) => Some(Kind::Blank),
         (0xc2, 0xb4) | (0xca, 0xbc) => Some(Kind::Apostrophe),
         _ => None,
     }

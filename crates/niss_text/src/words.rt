@@ -92,7 +92,7 @@ impl Wanted {
 
 /// What solvers call a solution, or what they wrote down for the judge. Only letters of ASCII may be capital ones.
 const SOLUTIONS: &[u8] =
-    b"solution,submitted,written,l\xc3\xb6sung,l\xc3\xb6sning,soluci\xc3\xb3n,solucion,soluzione,solu\xc3\xa7\xc3\xa3o,solucao,rozwi\xc4\x85zanie,oplossing,\xc3\xa7\xc3\xb6z\xc3\xbcm,\xc3\x87\xc3\xb6z\xc3\xbcm,\xd1\x80\xd0\xb5\xd1\x88\xd0\xb5\xd0\xbd\xd0\xb8\xd0\xb5,\xd0\xa0\xd0\xb5\xd1\x88\xd0\xb5\xd0\xbd\xd0\xb8\xd0\xb5,\xe8\xa7\xa3\xe6\xb3\x95,\xe8\xa7\xa3\xe7\xad\x94,\xed\x92\x80\xec\x9d\xb4";
+    b"solution,submitted,l\xc3\xb6sung,l\xc3\xb6sning,soluci\xc3\xb3n,solucion,soluzione,solu\xc3\xa7\xc3\xa3o,rozwi\xc4\x85zanie,oplossing,\xc3\xa7\xc3\xb6z\xc3\xbcm,\xc3\x87\xc3\xb6z\xc3\xbcm,\xd1\x80\xd0\xb5\xd1\x88\xd0\xb5\xd0\xbd\xd0\xb8\xd0\xb5,\xd0\xa0\xd0\xb5\xd1\x88\xd0\xb5\xd0\xbd\xd0\xb8\xd0\xb5,\xe8\xa7\xa3\xe6\xb3\x95,\xe8\xa7\xa3\xe7\xad\x94,\xed\x92\x80\xec\x9d\xb4";
 
 /// Whether solvers call a step so.
 pub fn is_step_name(word: &[u8]) -> bool {
@@ -156,10 +156,10 @@ pub fn first_topic(text: &[u8], before: &[u8]) -> Option<Topic> {
     }
 }
 
-/// Letters by which solvers name another side of the cube than the normal one, on which moves are read anyway, moves before
-/// the others that belong to it, or a change of it.
+/// Letters by which solvers name another side of the cube than the normal one, on which moves are read anyway, or a change
+/// of it, or moves before the others.
 const SIDES: &[u8] =
-    b"inv,niss,premo,pre-mo,pre mo,pr\xc3\xa9,setup mo,undo,switch,side,revers,backward,back to normal,r\xc3\xbcck,odwr,andere seite,vorz,envers,rev\xc3\xa9s,previos,przedr,preruch,omge,andersom,ters,omv,bakl,ford";
+    b"inv,niss,premo,pre-mo,pre mo,pr\xc3\xa9,setup mo,undo,switch,side,revers,backward,back to normal,r\xc3\xbcck,odwr,andere seite,vorz,envers,rev\xc3\xa9s,previos,przedr,omge,andersom,ters,omv,bakl";
 
 /// The same in Russian, without the first letter, which may be a capital, in Chinese and Japanese, and in Korean.
 const SIDES_BEYOND: &[u8] =
