@@ -3,12 +3,10 @@ from collections import Counter
 
 from best import DETAILS, LONGER, ROWS, SCRAMBLE, address_of
 from browser import Browser
-from program import program_answers, program_lists
+from program import beginnings, program_answers, program_lists
 from tally import Tally
 from wanted import SIDES, Position, twin_key
 from ways import line_of, ways
-
-TURNS = [face + power for face in "UDRLFB" for power in ("", "2", "'")]
 
 
 def counts_reductions(tally: Tally, browser: Browser) -> None:
@@ -22,19 +20,6 @@ def counts_reductions(tally: Tally, browser: Browser) -> None:
             lists = [program_lists(browser.program, ["solve", way.step, "20"], [lines[side]])[0] for side in SIDES]
             wanted = [(str(len(each[0].split())), f"×{len(each):,}") for each in lists]
             tally.equal(f"{row[1]}, {row[3]}: how many there are", [*zip(row[4:], times)], wanted)
-
-
-def beginnings(count: int) -> list[str]:
-    """All lines of so many turns, of which neighbours turn other faces, those of opposite faces in one order alone."""
-    lines: list[list[str]] = [[]]
-    for _ in range(count):
-        lines = [
-            [*line, turn]
-            for line in lines
-            for turn in TURNS
-            if not line or (line[-1][0] != turn[0] and line[-1][0] + turn[0] not in ("DU", "LR", "BF"))
-        ]
-    return [" ".join(line) for line in lines]
 
 
 def pairs_of(program: str, scramble: str, step: str, length: int) -> set[tuple[str, str]]:

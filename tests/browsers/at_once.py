@@ -15,8 +15,8 @@ HAS_FOCUS = "return document.activeElement.dataset.key === arguments[0]"
 LISTEN = """window.asked = [];
     const { postMessage } = Worker.prototype;
     const heard = new WeakSet();
-    const told = ({ data: { progress } }) => {
-        for (const { step } of Array.isArray(progress) ? progress : []) window.asked.push(`count ${step.name}`);
+    const told = ({ data: { reply } }) => {
+        for (const { step } of Array.isArray(reply?.value) ? reply.value : []) if (step) window.asked.push(`count ${step.name}`);
     };
     Worker.prototype.postMessage = function (...words) {
         const [{ request }] = words;

@@ -97,9 +97,9 @@ def says(tally: Tally, browser: Browser) -> None:
     browser.open(ADDRESS + "&list=eoud.normal.1")
     browser.script(LISTEN)
     browser.script(FOCUS, "filter")
-    shortest = next(cell for cell in Position(SCRAMBLE).cells() if cell.endswith(", shortest")).removesuffix(
-        ", shortest"
-    )
+    shortest = next(
+        cell for cell in Position(SCRAMBLE).cells(browser.program) if cell.endswith(", shortest")
+    ).removesuffix(", shortest")
     for typed in ("u r", "x"):
         browser.script(TYPE, typed)
         time.sleep(QUIET)

@@ -11,7 +11,7 @@ FIRST = "B D R F2 B D"
 def shows(tally: Tally, browser: Browser, what: str, *made: str) -> None:
     """The nets and the table of a position: each step that may start, and no other."""
     is_shown(tally, browser, f"{what}: the nets", SCRAMBLE, *made)
-    browser.walk(tally, f"{what}: the table", ("wait", {"cells": Position(SCRAMBLE, *made).cells()}))
+    browser.walk(tally, f"{what}: the table", ("wait", {"cells": Position(SCRAMBLE, *made).cells(browser.program)}))
 
 
 def shows_skeleton(tally: Tally, browser: Browser, line: str) -> None:

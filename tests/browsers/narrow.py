@@ -133,6 +133,23 @@ def presses(tally: Tally, browser: Browser) -> None:
     tally.holds("and their whole row is pressed", "take" in browser.script(hit))
 
 
+# on how many lines the buttons of each line that is kept stand, and what stands beyond its row
+LINES_OF_BUTTONS = """return all('#kept-list li').map((each) => {
+        const boxes = [...each.querySelectorAll('.row > button')].map((one) => one.getBoundingClientRect());
+        return [boxes.length, new Set(boxes.map(({ top }) => top)).size, boxes.some(({ right }) => right > each.getBoundingClientRect().right)];
+    })"""
+
+
+def has_one_line_of_buttons(tally: Tally, browser: Browser) -> None:
+    """All that is pressed of a line that is kept, its set-ups too, stands on one line."""
+    for width in (360, 390):
+        browser.resize(width, 740, mobile=True)
+        browser.go(ADDRESS + "&kept=inverse.B_D_R_F2_B_D;;drfb-eoud,normal.R")
+        browser.settle("return all('#kept-list .total').every((each) => each.textContent !== '')")
+        tally.equal(f"{width}: the buttons", browser.script(LINES_OF_BUTTONS), [[4, 1, False]] * 2)
+    browser.resize()
+
+
 def has_heads(tally: Tally, browser: Browser) -> None:
     """On a phone what stands beside a heading has no line of its own, though the heading may have two."""
     beside = """return all('.head').flatMap((head) => {

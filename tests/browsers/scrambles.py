@@ -247,7 +247,7 @@ def copies(tally: Tally, browser: Browser) -> None:
 def reads_edits(tally: Tally, browser: Browser) -> None:
     """
     Of kept lines that were copied and edited the lines and their notes count, and not the address below them: those that say what was kept stay that, with
-    the reduction that they were kept with. The address counts if they all say the same.
+    the reduction that they were kept with, unless its moves are others. The address counts if they all say the same.
     """
     copied = """R U F
 
@@ -258,13 +258,13 @@ D // (1)
 // a note
 
 F' // EO F/B (1)
-R2 U // DR U/D (2/3)
-// DR U/D 4c2e: 2 normal, 3 inverse
+(R) // DR U/D (1/2)
+// DR U/D 4c4e: 2 normal, 1 inverse
 
 #scramble=R_U_F&kept=normal.D~inverse.L;a_note,inverse.B,normal.F-;;drud-eofb
 """
     same = {"F'": "", "(B)": "", "D (L)": "a note"}
-    of_next = ", 3 inverse\n"
+    of_next, edited = ", 1 inverse\n", {"(B)": "", "D (L)": "a note"}
     for what, old, new, scramble, kept in (
         ("nothing", "", "", "R U F", same),
         ("the note", "a note", "R2 // another", "R U F", same | {"D (L)": "R2 // another"}),
@@ -275,14 +275,18 @@ R2 U // DR U/D (2/3)
         ("moves at the end", "(L) //", "(L) R //", "R U F", {"F'": "", "(B)": "", "D R (L)": "a note"}),
         ("a line that is gone", "D // (1)\n(L) // (1/2)\n// a note\n\n", "", "R U F", {"F'": "", "(B)": ""}),
         ("a line more", "(B) // (1)\n\n", "(B)\n\nL2\n\n", "R U F", same | {"L2": ""}),
-        ("the scramble", "R U F\n\n", "R U F2\n\n", "R U F2", {"F' R2 U": "", "(B)": "", "D (L)": "a note"}),
+        ("the scramble", "R U F\n\n", "R U F2\n\n", "R U F2", edited | {"F' (R)": ""}),
+        ("the reduction", "(R) //", "U' R //", "R U F", edited | {"F' U' R": ""}),
+        ("a move of it", "(R) //", "(R') //", "R U F", edited | {"F' (R')": ""}),
+        ("a reduction that is gone", "(R) // DR U/D (1/2)\n", "", "R U F", edited | {"F'": ""}),
     ):
         browser.open()
         browser.script(PASTE, copied.replace(old, new) if old else copied)
         tally.holds(f"{what} is edited: as many lines", browser.comes("kept", len(kept)))
         found = dict(browser.script(LINES)), browser.value("scramble"), browser.text("scramble-read")
         tally.equal(f"{what} is edited: lines, scramble, what is left out", found, (kept, scramble, ""))
-        tally.equal(f"{what} is edited: the reduction stays", "drud-eofb" in browser.hash(), "F'" in kept)
+        stays = "F'" in kept and what != "a reduction that is gone"
+        tally.equal(f"{what} is edited: the reduction stays", "drud-eofb" in browser.hash(), stays)
     long = copied.replace("a note", "another") + "\n" * 4096
     browser.walk(
         tally,

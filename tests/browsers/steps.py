@@ -190,12 +190,39 @@ def filters(tally: Tally, browser: Browser) -> None:
     )
 
 
+# what a row of the table says of a step over both sides, and what is marked as the shortest
+OVER = "return all('#steps-body tr:not(.anew) th').map((each) => [...each.querySelectorAll('small')].slice(1).map((one) => one.textContent))"
+LEAST = "return all('#steps-body .least').map((each) => each.dataset.cell ?? each.textContent)"
+
+
+def says_over_both(tally: Tally, browser: Browser) -> None:
+    """A step that takes less over both sides than on each alone says so; no step that takes more than the least over both is marked as the shortest."""
+    for scramble, *made in ((EXAMPLE,), (SCRAMBLE,), (EXAMPLE, "", "B D R F2 B D"), (SCRAMBLE, "D2 R2 L U")):
+        at = Position(scramble, *made)
+        over = at.over_both(browser.program)
+        parts = [f"{side}.{moves.replace(' ', '_')}" for side, moves in zip(("normal", "inverse"), made) if moves]
+        address = f"#scramble={scramble}".replace(" ", "_").replace("'", "-") + (
+            "&steps=" + ".".join(parts) if parts else ""
+        )
+        said = [[f"{over[step]} over both"] if step in over else [] for group in at.open_steps() for step in group]
+        browser.walk(tally, f"{scramble} {made}", ("go", address, {"cells": at.cells(browser.program), OVER: said}))
+    # five moves on a side, four over both
+    start = f"#scramble={EXAMPLE}".replace(" ", "_").replace("'", "-")
+    browser.walk(
+        tally,
+        "the shortest are over both",
+        ("open", start, {LEAST: ["4 over both", "4 over both"]}),
+        ("comes", "said", "Shortest next step: EO F/B, both sides: 4 moves.", {}),
+        ("script", "part('skip').click()", {"focus": "eofb.normal"}),
+    )
+
+
 def says_in_all(tally: Tally, browser: Browser) -> None:
     """A cell says how many of its solutions have as few moves in all as it says, and the list begins with these."""
     scramble, made = "R' U' F U' R2 F D2 L R D2 U B U' B' L B U' L' F' R2 B F L R' U' F", "R2 B U' R F"
     at = Position(scramble, made)
     address = f"#scramble={scramble}&steps=normal.{made}&list=drrl-eofb.normal.0".replace(" ", "_").replace("'", "-")
-    browser.walk(tally, "in all", ("go", address, {"cells": at.cells()}))
+    browser.walk(tally, "in all", ("go", address, {"cells": at.cells(browser.program)}))
     listed = browser.listed()
     tally.equal("each row is there", sorted(listed), sorted(at.rows("drrl-eofb", "normal")))
     counted = [at.in_all("normal", moves) for moves in listed]

@@ -60,9 +60,7 @@ def shows_focus_above(tally: Tally, browser: Browser) -> None:
     browser.follow("#scramble=R_U_F")
     browser.follow(ADDRESS)
     browser.wait_best()
-    tally.holds(
-        "there are chips of scrambles, and folds", browser.look("desk?") and browser.texts("#kept-list summary")
-    )
+    tally.holds("there are chips of scrambles, and folds", browser.look("desk?") and browser.texts("#choices summary"))
     tally.equal("what is below the bar", browser.script(hidden), [])
 
 

@@ -50,6 +50,11 @@ def copies(tally: Tally, browser: Browser) -> None:
     browser.no_longer(script)
 
 
+SEEN_SET_UPS = "return seen('#kept-list dl').length"
+UNFOLD = "#kept-list [data-control^=cubes]"
+EXPANDED = f"return document.querySelector('{UNFOLD}').ariaExpanded"
+
+
 def sets_up(tally: Tally, browser: Browser) -> None:
     """The line and what is kept say how the cube in one's hands is set up on each side, on a sheet too."""
     both = {"#set-ups output": ["L' U F D", "D' F' U' L"], "#kept-list dl output": ["L' U F D", "D' F' U' L"]}
@@ -58,8 +63,11 @@ def sets_up(tally: Tally, browser: Browser) -> None:
         "both sides",
         ("go", "#scramble=U_F&steps=normal.D.inverse.L&kept=normal.D.inverse.L", {}),
         ("comes", "n #kept-list dl", 1, both),
-        ("script", "dispatchEvent(new Event('beforeprint'))", {"n #kept-list details[open]": 1}),
-        ("script", "dispatchEvent(new Event('afterprint'))", {"n #kept-list details[open]": 0}),
+        ("media", "print", {SEEN_SET_UPS: 1}),
+        ("media", {SEEN_SET_UPS: 0}),
+        ("click", UNFOLD, {SEEN_SET_UPS: 1, "label": "Set-ups: D on the inverse side L"}),
+        ("click", "#kept-list [data-control^=compare]", {SEEN_SET_UPS: 1}),
+        ("click", UNFOLD, {SEEN_SET_UPS: 0, EXPANDED: "false"}),
         ("act", LAST_STEP_AWAY, {"set-ups?": False}),
     )
     # premoves, scramble and moves are read off, though they cancel where they meet

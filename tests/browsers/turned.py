@@ -25,7 +25,7 @@ def written(moves: str) -> str:
 def reaches(tally: Tally, browser: Browser, what: str, address: str, *made: str) -> None:
     """The nets and the cells of a cube; and the first solution of each list reaches its step."""
     position = Position(*made)
-    browser.walk(tally, what, ("go", address, {"cells": position.cells()}))
+    browser.walk(tally, what, ("go", address, {"cells": position.cells(browser.program)}))
     is_shown(tally, browser, f"{what}: the nets", *made)
     for step, side in ((step, side) for step in STEPS for side in SIDES):
         wanted = position.rows(step, side)

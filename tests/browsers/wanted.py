@@ -8,6 +8,7 @@ sys.path.insert(0, str(Path(__file__).resolve().parent.parent / "model"))
 
 import bad_pieces  # noqa: E402
 import model  # noqa: E402
+from program import fewer_over_both  # noqa: E402
 
 SIDES = ("normal", "inverse")
 TITLES = {"eofb": "EO F/B", "eorl": "EO R/L", "eoud": "EO U/D"}
@@ -179,12 +180,21 @@ class Position:
         best = totals.count(totals[0])
         return f"{totals[0]} in all, {f'{best:,} of ' if best < solutions else ''}{counted(solutions, 'solution')}"
 
-    def cells(self) -> list[str]:
-        """What the cells of the page's table are called."""
+    def over_both(self, program: str) -> dict[str, int]:
+        """The least lengths over both sides, by the built program, of the steps that may follow and take less so than on each side alone."""
+        steps = [step for group in self.open_steps() for step in group]
+        alone = {step: min(self.count(step, side)[0] for side in SIDES) for step in steps}
+        found = {step: fewer_over_both(program, step, self.lines, least) for step, least in alone.items()}
+        return {step: length for step, length in found.items() if length is not None}
+
+    def cells(self, program: str) -> list[str]:
+        """What the cells of the page's table are called: the shortest are those that take no more than a step over both sides."""
         names = []
+        over = self.over_both(program)
         for group in self.open_steps():
             counts = {(step, side): self.count(step, side) for step in group for side in SIDES}
-            least = min((length for length, _, _ in counts.values()), default=0) if self.keeps(group) else None
+            lengths = [length for length, _, _ in counts.values()] + [over[step] for step in group if step in over]
+            least = min(lengths, default=0) if self.keeps(group) else None
             for (step, side), (length, solutions, _) in counts.items():
                 said = f"{counted(length, 'move')}, {self.in_words(step, side, solutions)}"
                 names.append(f"{TITLES[step]}, {side} side: {said}{', shortest' if length == least else ''}")

@@ -1,6 +1,5 @@
 // The script of the page's workers: all that the page asks, each by its name, of the engine that is at hand there.
 import { Engine } from "../module/engine/engine.js";
-import { NissyFault, type FaultParts } from "../module/shared/faults.js";
 import { Nissy } from "../module/nissy.js";
 import { bestIn, type BestReply } from "../module/calls/replies.js";
 import { bestRequest } from "../module/calls/requests.js";
@@ -10,9 +9,9 @@ import type { Step } from "../module/shared/steps.js";
 import { compareLines } from "./answers/compare.js";
 import { orientationsOn } from "./answers/orientations.js";
 import { casesPassed, positionAfter } from "./answers/position-after.js";
-import { readAddressed, readByHand, readWritten } from "./answers/read-lines.js";
+import { readAddressed, readByHand, readOrFault, readWritten } from "./answers/read-lines.js";
 import { rowsOfList } from "./answers/list-rows.js";
-import { afterRow, examine, framesOf, walkKept } from "./answers/examine.js";
+import { afterRow, copiedOf, examine, framesOf, walkKept } from "./answers/examine.js";
 import { bracketed, partOf, stateOf, stepNamed } from "./shared/offered-steps.js";
 import { rankOf, type BestRow } from "../module/shared/ways.js";
 import type { FoundOnAxis, Question, Row } from "./cards/finder.js";
@@ -70,8 +69,8 @@ function warmUp(nissy: Nissy, { axis }: { axis: number }, _: unknown, engine: En
 }
 
 const ANSWERS = {
-  afterRow, bestOfAxis, build, compareLines, examine, framesOf, orientationsOn, readAddressed, readByHand, readWritten,
-  rowsOfList, scrambleOf, walkKept, warmUp,
+  afterRow, bestOfAxis, build, compareLines, copiedOf, examine, framesOf, orientationsOn, readAddressed, readByHand,
+  readWritten, rowsOfList, scrambleOf, walkKept, warmUp,
 };
 
 export type Answers = typeof ANSWERS;
@@ -79,16 +78,6 @@ export type Answers = typeof ANSWERS;
 type Asked = { id: number; request: { call: keyof Answers; about: unknown } };
 /** How each is answered, some after they told how far they are. */
 type Answering = (nissy: Nissy, about: unknown, tell: (progress: unknown) => void, engine: Engine) => unknown;
-
-/** What is asked, or what is at fault in the lines of it. */
-function replyOf(ask: () => unknown): { value: unknown } | { fault: FaultParts } {
-  try {
-    return { value: ask() };
-  } catch (fault) {
-    if (fault instanceof NissyFault) return { fault: fault.parts() };
-    throw fault;
-  }
-}
 
 /** A worker, and no window. */
 const worker = self as unknown as Port;
@@ -99,5 +88,5 @@ self.addEventListener("unhandledrejection", ({ reason }) => {
 serveBy(worker, (module) => Engine.start(module), (engine, { id, request: { call, about } }: Asked) => {
   const tell = (progress: unknown) => worker.postMessage({ id, progress });
   const answering = ANSWERS[call] as Answering;
-  worker.postMessage({ id, reply: replyOf(() => answering(new Nissy(engine), about, tell, engine)) });
+  worker.postMessage({ id, reply: readOrFault(() => answering(new Nissy(engine), about, tell, engine)) });
 });

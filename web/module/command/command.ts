@@ -85,10 +85,7 @@ const lastMoves = (out: Uint8Array) =>
 function writeSolutions(instance: Instance, { step, limit, slack }: Search, line: Uint8Array) {
   const request = solveRequest(step, line, { limit, slack, most: MOST_OF_PIECE });
   let piece: Piece = withValue(solvedBytes(instance, request));
-  if (READ.solutions(piece.answer, piece.at) === 0) {
-    writeText(`no solution within ${limit} moves\n\n`);
-    return;
-  }
+  if (READ.solutions(piece.answer, piece.at) === 0) return writeText(`no solution within ${limit} moves\n\n`);
   writePiece(piece);
   while (hasMore(piece)) {
     piece = withValue(solvedBytes(instance, { ...request, after: lastMoves(piece.out) }));

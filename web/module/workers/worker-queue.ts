@@ -148,10 +148,7 @@ export class WorkerQueue {
   #hear(seat: Seat, data: Told) {
     const [asked] = seat.sent;
     if (asked?.id !== data.id) return;
-    if (Object.hasOwn(data, "progress")) {
-      this.#follow(asked, data.progress);
-      return;
-    }
+    if (Object.hasOwn(data, "progress")) return void this.#follow(asked, data.progress);
     seat.sent.shift();
     if (Object.hasOwn(data, "error")) asked.refused(errorOf(data.error));
     else asked.answered(data.reply);

@@ -1,14 +1,16 @@
 // What the engine at hand says of a scramble, the moves after it, the steps that may follow, and lines that are kept.
-import { NissyFault, type FaultParts } from "../../module/shared/faults.js";
+import { LONGEST_STEP } from "../state/limits.js";
 import { lastOf } from "../shared/certain.js";
 import { casesPassed, positionAfter, totalsWith, withoutCancelled, type Position } from "./position-after.js";
-import { readScramble, type ReadScramble } from "./read-lines.js";
+import { readOrFault, readScramble, type ReadScramble } from "./read-lines.js";
 import {
-  REDUCTIONS, SIDES, bracketed, isOffered, isReduced, newlyReached, onOtherSides, openSteps, partOn, singleMoves,
-  stepNamed, type OfferedStep, type Part, type Side, type Step,
+  REDUCTIONS, SIDES, bracketed, isOffered, isReduced, joined, newlyReached, onOtherSides, openSteps, partOn,
+  singleMoves, stepNamed, type OfferedStep, type Part, type Side, type Step,
 } from "../shared/offered-steps.js";
 import type { BestRow } from "../../module/shared/ways.js";
-import type { Candidate } from "../state/address.js";
+import type { FaultParts } from "../../module/shared/faults.js";
+import type { Candidate, State } from "../state/address.js";
+import type { Copied } from "../state/kept-lines.js";
 import type { Count } from "../../module/calls/replies.js";
 import type { Facts } from "../../module/shared/facts.js";
 import type { Nissy } from "../../module/nissy.js";
@@ -16,7 +18,8 @@ import type { Nissy } from "../../module/nissy.js";
 export type View = { letters: string; facts: Facts };
 /** `total`: the fewest moves in all with a shortest solution, Infinity if there is none; `best`: how many make that. */
 export type Counted = Count & { total: number; best: number };
-export type Offer = { step: OfferedStep; normal: Counted; inverse: Counted };
+/** `both`: the least length over both sides, if that is less than on each alone; after a reduction null. */
+export type Offer = { step: OfferedStep; normal: Counted; inverse: Counted; both: number | null };
 /** What is known of a line after each beginning, from none of its parts to all; `turns`: of each part; `passed`: the
  * case before each move of those that lead from an orientation to a reduction; `otherwise`: what a part that reaches
  * nothing would reach on the other side; `now`: the cube then. */
@@ -85,17 +88,12 @@ export type Examined = { read: ReadScramble; walk: Walk; views: Record<Side, Vie
 export type Unexamined = { unread: FaultParts };
 
 function examined(nissy: Nissy, { text, parts }: { text: string; parts: Part[] }): Examined | Unexamined {
-  let read = null;
-  try {
-    read = readScramble(nissy, text);
-  } catch (fault) {
-    if (!(fault instanceof NissyFault)) throw fault;
-    return { unread: fault.parts() };
-  }
-  const walk = walkOf(nissy, read.line, parts);
+  const found = readOrFault(() => readScramble(nissy, text));
+  if ("fault" in found) return { unread: found.fault };
+  const walk = walkOf(nissy, found.value.line, parts);
   const whole = nissy.unniss(bracketed([walk.now.made]));
   const views = viewsOf(nissy, walk.now);
-  return { read, walk, views, whole: views.normal.facts.solved ? withoutCancelled(nissy, whole) : whole };
+  return { read: found.value, walk, views, whole: views.normal.facts.solved ? withoutCancelled(nissy, whole) : whole };
 }
 
 /** The cube on both sides after the scramble and after each move of some parts. */
@@ -107,7 +105,7 @@ export function framesOf(
     { move: at === 0 ? "" : bracketed([moves[at - 1]]), total: position.count, views: viewsOf(nissy, position) }));
 }
 
-function offerOf(nissy: Nissy, step: OfferedStep, position: Position): Offer {
+function offerOf(nissy: Nissy, step: OfferedStep, position: Position, reached: string[]): Offer {
   const [normal, inverse] = SIDES.map((side) => {
     const count = nissy.count(step.name, position.lines[side]);
     if (position.count === 0) return { ...count, total: count.length ?? Infinity, best: count.solutions };
@@ -116,18 +114,21 @@ function offerOf(nissy: Nissy, step: OfferedStep, position: Position): Offer {
     const total = totals.reduce((least, each) => Math.min(least, each), Infinity);
     return { ...count, total, best: totals.filter((each) => each === total).length };
   });
-  return { step, normal, inverse };
+  const least = Math.min(normal.length ?? LONGEST_STEP, inverse.length ?? LONGEST_STEP);
+  const wanted = { sides: "both", limit: least - 1, most: 1 } as const;
+  const [fewer] = isReduced(reached) ? [] : nissy.solve(step.name, position.lines.normal, wanted);
+  return { step, normal, inverse, both: fewer?.length ?? null };
 }
 
-/** A scramble with some parts, and then the steps that may follow, whose tables may still have to be built. */
+/** The steps that may follow a scramble with some parts, which is told before: their tables may have to be built. */
 export function examine(
-  nissy: Nissy, typed: { text: string; parts: Part[] }, tell: (told: Examined | Unexamined | Offer[]) => void,
-) {
+  nissy: Nissy, typed: { text: string; parts: Part[] }, tell: (told: Examined | Unexamined) => void,
+): Offer[] {
   const cube = examined(nissy, typed);
   tell(cube);
-  if ("unread" in cube) return tell([]);
-  const { now, reached } = cube.walk;
-  tell(openSteps(lastOf(reached)).map((step) => offerOf(nissy, step, now)));
+  if ("unread" in cube) return [];
+  const [{ now }, reached] = [cube.walk, lastOf(cube.walk.reached)];
+  return openSteps(reached).map((step) => offerOf(nissy, step, now, reached));
 }
 
 /** `next`: the best of the reduction that it was kept with, null if none of at most 20 moves may follow. */
@@ -148,6 +149,11 @@ export function walkKept(
     return { ...walk, next: step ? bestOfReduction(nissy, scramble, parts, step) : null };
   });
 }
+
+/** What is kept as it is copied: of each all its moves, with the first of the reduction that it was kept with. */
+export const copiedOf = (nissy: Nissy, { scramble, kept }: Pick<State, "scramble" | "kept">): Copied[] =>
+  walkKept(nissy, { scramble: readScramble(nissy, scramble).line, candidates: kept }).map(({ parts, next }, at) =>
+    ({ ...kept[at], line: joined(...parts.map((each) => bracketed([each])), next?.dr.moves ?? "") }));
 
 /** How many of the shortest reductions each side alone has after some steps, or null, and the cases that one passes. */
 export type After = Record<Side, number | null> & { passed: string[] };

@@ -1,6 +1,7 @@
 // How many orientations there are up to so many moves longer than the shortest, before they are looked at.
 import { countRequest, type Sides } from "../../module/calls/requests.js";
 import { positionAfter } from "./position-after.js";
+import { LONGEST_STEP } from "../state/limits.js";
 import { ORIENTATIONS } from "../shared/offered-steps.js";
 import type { CountOfSides } from "../../module/calls/replies.js";
 import type { Engine } from "../../module/engine/engine.js";
@@ -9,7 +10,6 @@ import type { Question } from "../cards/finder.js";
 
 /** At how many positions it looks at most to count those of an axis, which takes less than a second. */
 const MOST_NODES = 8_000_000;
-const LONGEST = 20;
 /** How many times more there are of one move more, if they are that many. */
 const GROWTH_OF_MOVE = 20;
 
@@ -19,7 +19,7 @@ export type Size = { count: number; counted: boolean };
 /** How many there are of each length, up to so many moves more than the shortest. @param countOf null if too many */
 function countsUpTo(slack: number, countOf: (length: number) => number | null): number[] {
   const counts: number[] = [];
-  for (let longest = LONGEST; counts.length <= longest;) {
+  for (let longest = LONGEST_STEP; counts.length <= longest;) {
     const length = counts.length;
     counts.push(countOf(length) ?? GROWTH_OF_MOVE * (counts.at(-1) ?? 0));
     if (counts[length] > 0) longest = Math.min(longest, length + slack);

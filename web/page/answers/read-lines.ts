@@ -4,6 +4,7 @@ import { NissyFault, type FaultParts } from "../../module/shared/faults.js";
 import { MOST_MOVES } from "../state/limits.js";
 import { SIDES, bracketed, joined, type Part, type Side } from "../shared/offered-steps.js";
 import type { Candidate } from "../state/address.js";
+import type { Copied } from "../state/kept-lines.js";
 import type { Nissy } from "../../module/nissy.js";
 import type { PlainLine } from "../../module/text/written.js";
 
@@ -23,6 +24,16 @@ function runsOf(text: string, side: Side): { side: Side; moves: string }[] {
   return [...text.matchAll(/\(([^()]*)\)|[^()]+/g)].map(([whole, inside]) =>
     inside === undefined ? { side: "normal", moves: whole } : { side: "inverse", moves: inside },
   );
+}
+
+/** What is read of lines, or what is at fault in them. */
+export function readOrFault<Value>(read: () => Value): { value: Value } | { fault: FaultParts } {
+  try {
+    return { value: read() };
+  } catch (fault) {
+    if (fault instanceof NissyFault) return { fault: fault.parts() };
+    throw fault;
+  }
 }
 
 /** A scramble by its face turns, whether turns of the whole cube were left out, and as it is copied. */
@@ -54,20 +65,16 @@ function readAllByHand(nissy: Nissy, steps: PlainLine[]): { parts: Part[]; begin
   const [parts, begins]: [Part[], number[]] = [[], []];
   for (const each of steps) {
     const line = each.line.trim();
-    try {
-      const read = readByHand(nissy, { text: line, side: "normal" });
-      parts.push(...read);
-      begins.push(...read.map(() => each.places[0]));
-    } catch (fault) {
-      if (!(fault instanceof NissyFault)) throw fault;
-      return { parts, begins, unread: { line, fault: fault.parts() } };
-    }
+    const read = readOrFault(() => readByHand(nissy, { text: line, side: "normal" }));
+    if ("fault" in read) return { parts, begins, unread: { line, ...read } };
+    parts.push(...read.value);
+    begins.push(...read.value.map(() => each.places[0]));
   }
   return { parts, begins, unread: null };
 }
 
 /** A text as solvers write it, and which of its attempts is meant; `copied`: what it was a copy of, before edits. */
-export type Written = { text: string; at: number; copied?: Candidate[] };
+export type Written = { text: string; at: number; copied?: Copied[] };
 
 /** The steps and the candidates of an attempt, the first line of it that can't be read, if any, what makes one doubt
  * how it was read, which step is in doubt, or -1, and what undoes that on the normal side. */
@@ -96,12 +103,8 @@ function readSteps(nissy: Nissy, parts: Part[]): Part[] {
 /** A candidate of an address, read as its steps are; one that can't be read stays, and is said to be so. */
 function readAgain(nissy: Nissy, candidate: Candidate): Candidate {
   if (candidate.parts.every((part) => SIDES.every((side) => FACE_TURNS.test(part[side])))) return candidate;
-  try {
-    return { ...candidate, parts: readSteps(nissy, candidate.parts) };
-  } catch (fault) {
-    if (fault instanceof NissyFault) return candidate;
-    throw fault;
-  }
+  const read = readOrFault(() => readSteps(nissy, candidate.parts));
+  return "fault" in read ? candidate : { ...candidate, parts: read.value };
 }
 
 export const readAddressed = (nissy: Nissy, { parts, kept }: { parts: Part[]; kept: Candidate[] }) => ({

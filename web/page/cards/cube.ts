@@ -13,6 +13,7 @@ import type { View, Walk } from "../answers/examine.js";
 
 const FOLLOW = "follow";
 const BEAT = 700;
+const BY_KEY: Record<string, number> = { ArrowLeft: -1, PageUp: -1, ArrowRight: 1, PageDown: 1 };
 
 /** The places of the pieces that a choice marks, and what they are called; a choice is `EO F/B` or `DR U/D`. */
 function marksOf({ badEdges, badCorners, misplacedEdges, case: cases }: Facts, choice: string) {
@@ -140,12 +141,18 @@ export class Nets {
     part("cube-large").textContent = isLarge ? "Smaller" : "Larger";
   }
 
+  /** Has Escape bring the page back, and arrow keys, or those of a presenter, lead from move to move on large nets. */
   #typed(event: KeyboardEvent) {
-    if (event.key !== "Escape" || !part("cube").matches(".large") || document.querySelector(":popover-open")) return;
-    // what else it closes is behind the nets
-    event.stopPropagation();
-    this.#enlarge(false);
-    part("cube-large").focus();
+    if (!part("cube").matches(".large") || document.querySelector(":popover-open")) return;
+    if (event.key === "Escape") {
+      // what else it closes is behind the nets
+      event.stopPropagation();
+      this.#enlarge(false);
+      part("cube-large").focus();
+    } else if (Object.hasOwn(BY_KEY, event.key) && !document.activeElement?.matches("select") && !event.altKey) {
+      event.preventDefault();
+      this.#step(BY_KEY[event.key]);
+    }
   }
 
   /** @param choice what the cell of the open list would mark, or "" */

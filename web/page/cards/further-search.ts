@@ -116,21 +116,19 @@ export class FurtherSearch {
 
   /** Has the orientations counted, and goes on with as many as may be. */
   async #weigh(search: Search) {
+    const { question } = search;
     const isStill = () => search === this.#search;
+    const asked = this.finders.map((finder, axis) => finder.ask("orientationsOn", { axis, question }));
     try {
-      const { question } = search;
-      const sizes = await Promise.all(this.finders.map((finder, axis) =>
-        finder.ask("orientationsOn", { axis, question })));
+      const sizes = await Promise.all(asked);
       if (!isStill()) return;
-      search.sizes = sizes;
+      Object.assign(search, { sizes, isHeld: search.isHeld || !this.measure.allows(sizes) });
+      if (search.isHeld) this.acts.turned();
+      else this.#goOn();
     } catch (fault) {
       // after a pause they are counted again
       if (isStill() && !document.hidden) this.#end(thrownError(fault));
-      return;
     }
-    search.isHeld ||= !this.measure.allows(search.sizes);
-    if (search.isHeld) this.acts.turned();
-    else this.#goOn();
   }
 
   async #look(search: Search, at: number) {

@@ -75,8 +75,9 @@ export class KeptCandidates {
   /** the scramble as it is copied, and by its face turns */
   #scramble = "";
   #line = "";
-  /** the names of those that are to be compared */
+  /** the names of those that are to be compared, and of those whose set-ups are seen */
   #compared: string[] = [];
+  #unfolded = new Set<string>();
   #list = part("kept-list");
   #way = new WayTo(part("bar-kept"), part("kept"), part("kept-heading"));
 
@@ -88,12 +89,6 @@ export class KeptCandidates {
     });
     part("kept-compare").addEventListener("click", () => this.#compare());
     part("comparison-close").addEventListener("click", () => part("comparison").close());
-    // a sheet has the set-ups
-    for (const kind of ["beforeprint", "afterprint"]) {
-      addEventListener(kind, () => {
-        for (const each of this.#list.querySelectorAll<PageElement>("details")) each.open = kind === "beforeprint";
-      });
-    }
   }
 
   /** Shows candidates; what the engine says of them comes by `describe`. */
@@ -190,7 +185,6 @@ export class KeptCandidates {
   #item({ candidate, walk, at }: Shown) {
     const { parts, note } = candidate;
     const [name, said] = [nameOf(candidate), saidOf(candidate)];
-    const isCompared = this.#compared.includes(name);
     const act = (word: string, control: string, click: () => void, more: Attributes = {}) => button(word,
       { class: "quiet", "data-control": `${control} ${name}`, "aria-label": `${word}: ${said}`, click, ...more });
     const field = element("input", {
@@ -202,14 +196,15 @@ export class KeptCandidates {
       },
     });
     this.#notes[at] = field;
-    const cubes = walk === null ? [] : [element("details", {},
-      element("summary", {}, "Set-ups"), element("dl", {}, ...setUps(walk.now.lines, `: ${said}`)))];
+    const isUnfolded = this.#unfolded.has(name);
+    const cubes = walk === null ? [] : [element("dl", { hidden: !isUnfolded }, ...setUps(walk.now.lines, `: ${said}`))];
     return element("li", {},
       stepOf(parts, walk),
       element("span", { class: "row" },
         field,
         act("Go on", "on", () => this.#goOn(candidate, walk)),
-        act("Compare", "compare", () => this.#choose(name), { "aria-pressed": String(isCompared) }),
+        act("Compare", "compare", () => this.#choose(name), { "aria-pressed": String(this.#compared.includes(name)) }),
+        act("Set-ups", "cubes", () => this.#unfold(name), { "aria-expanded": String(isUnfolded) }),
         act("Remove", "away", () => this.#remove(at))),
       ...cubes);
   }
@@ -226,6 +221,11 @@ export class KeptCandidates {
   #choose(name: string) {
     const others = this.#compared.filter((each) => each !== name);
     this.#compared = others.length < this.#compared.length ? others : [...others, name].slice(-MOST_COMPARED);
+    this.#draw();
+  }
+
+  #unfold(name: string) {
+    if (!this.#unfolded.delete(name)) this.#unfolded.add(name);
     this.#draw();
   }
 

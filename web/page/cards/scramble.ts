@@ -1,9 +1,9 @@
 // The card of the scramble: its field, what was left out of a text and what is at fault, and its fold.
 import { Stopped } from "../../module/shared/faults.js";
 import { announce, announceLater, counted, part, tell } from "../shared/element.js";
-import { emptyState, type Candidate } from "../state/address.js";
+import { emptyState } from "../state/address.js";
 import { sheetsIn, withoutAddresses, type NewSheet } from "../state/desk.js";
-import { areSaid } from "../state/kept-lines.js";
+import { areSaid, type Copied } from "../state/kept-lines.js";
 import { LONGEST_SCRAMBLE } from "../state/limits.js";
 import { areBeside, withoutMoving } from "../shared/view.js";
 import { showDoubt, showFault, unanswered, wordsOfLeftOut } from "../shared/words.js";
@@ -159,18 +159,22 @@ export class ScrambleField {
   }
 
   /** Whether what was kept, and copied, was edited since: then its lines count, and not the address below them. */
-  #isEdited({ candidates }: Attempt, copied: Candidate[]) {
+  #isEdited({ candidates }: Attempt, copied: Copied[]) {
     const asRead = (note: string) => this.reader.attempts(`R\n\nR\n// ${note}`)[0].candidates[0]?.note ?? note;
     const before = copied.map((each) => ({ ...each, note: asRead(each.note) }));
     const lines = candidates.map(({ solution, note }) => ({ line: spaced(solution), note }));
     return lines.length > 0 && !areSaid(before, lines);
   }
 
-  #read(typed: string, isReplaced: boolean, isPasted: boolean) {
+  async #read(typed: string, isReplaced: boolean, isPasted: boolean) {
     const [sheets, text] = [sheetsIn(typed), withoutAddresses(typed)];
     const attempts = this.reader.attempts(text);
-    const line = spaced(attempts[0].scramble);
-    const copied = sheets.find(({ state }) => spaced({ line: state.scramble }) === line)?.state.kept ?? [];
+    const [line, hasLines] = [spaced(attempts[0].scramble), attempts[0].candidates.length > 0];
+    const turn = this.#turn;
+    const own = sheets.find(({ state }) => spaced({ line: state.scramble }) === line);
+    // none if that can't be said: then the lines count
+    const copied = own && hasLines ? await this.calls.ask("copiedOf", own.state).catch(() => []) : [];
+    if (turn !== this.#turn) return;
     if (sheets.length > 0 && !this.#isEdited(attempts[0], copied)) {
       this.#field.value = this.#shown;
       return this.acts.take(sheets);

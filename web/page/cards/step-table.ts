@@ -8,7 +8,6 @@ import type { Counted, Examined, Offer, Unexamined } from "../answers/examine.js
 import type { Facts } from "../../module/shared/facts.js";
 import type { List } from "../state/address.js";
 
-type Told = Examined | Unexamined;
 export type Cube = { facts: Facts; made: number; reached: string[] };
 
 /** The least length, what that makes in all after moves, how many solutions make that, and a word that is only said. */
@@ -30,13 +29,12 @@ const SOON = 50;
  * the page. They are waited for a moment, since what is shown by itself is laid out and painted by itself. */
 export async function cubeWithOffers(
   calls: Calls, typed: { text: string; parts: Part[] },
-): Promise<{ cube: Told; offers: Promise<Offer[]> }> {
-  const acts: { settle: (told: Told | Offer[]) => void; refuse: (fault: unknown) => void }[] = [];
-  const told = [0, 1].map(() => new Promise<Told | Offer[]>((settle, refuse) => acts.push({ settle, refuse })));
-  const [cube, offers] = told as [Promise<Told>, Promise<Offer[]>];
-  let at = 0;
-  calls.ask("examine", typed, (each) => acts[at++].settle(each))
-    .catch((fault) => acts.forEach(({ refuse }) => refuse(fault)));
+): Promise<{ cube: Examined | Unexamined; offers: Promise<Offer[]> }> {
+  let offers: Promise<Offer[]> = Promise.resolve([]);
+  const cube = new Promise<Examined | Unexamined>((settle, refuse) => {
+    offers = calls.ask("examine", typed, settle);
+    offers.catch(refuse);
+  });
   // what is wrong is said where it is waited for
   await Promise.race([offers.catch(() => {}), new Promise((late) => setTimeout(late, SOON))]);
   return { cube: await cube, offers };
@@ -50,7 +48,15 @@ const keepsReached = (offers: Offer[], reached: string[]) =>
   reached.length === 0 || (areReductions(offers) && !isReduced(reached));
 
 const leastOf = (offers: Offer[]) =>
-  Math.min(...offers.flatMap((offer) => SIDES.map((side) => offer[side].length ?? Infinity)));
+  Math.min(...offers.flatMap(({ normal, inverse, both }) =>
+    [normal.length, inverse.length, both].map((length) => length ?? Infinity)));
+
+/** The least length over both sides, if that is less than on each alone. @param least of all that may follow */
+function overBoth({ step, both }: Offer, least: number | null) {
+  if (both === null) return [];
+  const title = `${titleOf(step)}, both sides: ${counted(both, "move")}`;
+  return [element("small", { title, class: both === least ? "chip least" : "" }, `${both} over both`)];
+}
 
 export class StepTable {
   #focused: HTMLElement | null = null;
@@ -93,14 +99,10 @@ export class StepTable {
 
   cell = (name: string) => withData(this.#body, "cell", name);
 
-  #least() {
-    return this.#body.querySelector(".least");
-  }
-
   /** What is said of the offers: the first of the shortest steps that are left, if there is one. */
   summary() {
-    const least = this.#least();
-    return least ? `Shortest next step: ${least.getAttribute("aria-label")?.replace(", shortest", "")}.` : "";
+    const least = this.#body.querySelector<HTMLElement>(".least");
+    return least ? `Shortest next step: ${(least.ariaLabel ?? least.title).replace(", shortest", "")}.` : "";
   }
 
   /** Gives the focus back that `hold` took: to the same cell or control, or to the heading where that is gone. */
@@ -125,9 +127,10 @@ export class StepTable {
     }
   }
 
-  /** Puts the focus on the first of the shortest steps that are left. */
+  /** Puts the focus on the first of the shortest steps that are left; of one over both sides on that of its sides. */
   focus() {
-    (this.#least() ?? part("steps-heading")).focus({ preventScroll: true });
+    const least = this.#body.querySelector<HTMLElement>(".cell.least, tr:has(.chip.least) .cell");
+    (least ?? part("steps-heading")).focus({ preventScroll: true });
   }
 
   /** Presses a cell, if there is one that isn't dimmed. @param at its place among the cells */
@@ -143,7 +146,7 @@ export class StepTable {
     return group.map((offer) => element("tr", { "data-marks": stateOf(offer.step) },
       element("th", { scope: "row" },
         element("span", { class: "axis" }, isOneOf ? titleOf(offer.step) : stateOf(offer.step)),
-        element("small", {}, ` ${caseOfStep(cube.facts, offer.step)}`)),
+        element("small", {}, ` ${caseOfStep(cube.facts, offer.step)}`), ...overBoth(offer, least)),
       ...SIDES.map((side) => this.#cell(offer, side, { least, made: cube.made }))));
   }
 

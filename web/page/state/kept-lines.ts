@@ -11,22 +11,23 @@ const inOne = (parts: Part[]) => parts.map((each) => bracketed([each])).join(" "
 /** A note without what the page writes before it, of the reduction that a line was kept with. */
 const ownNote = (note: string) => note.replace(/^DR \S+ \S+: \S+ normal, \S+ inverse(, \d+ over both)? */, "");
 
-/** Whether a line says what is kept: one that was kept with a reduction goes on with the first of it. */
-function isSaid({ parts, next }: Candidate, line: string, note: string) {
-  if (next === "") return line === inOne(parts) && ownNote(note) === note;
-  return `${line} `.startsWith(`${inOne(parts)} `) && note.startsWith(`${stateOf(stepNamed(next))} `);
-}
+/** What was copied; `line`: all its moves, with the first of the reduction that it was kept with. */
+export type Copied = Candidate & { line: string };
 
-/** Whether lines say what is kept, with its notes, and nothing more. */
-export const areSaid = (candidates: Candidate[], lines: { line: string; note: string }[]) =>
-  lines.length === candidates.length && candidates.every((each) =>
+/** Whether a line says what was copied: of one that was kept with a reduction the note begins with that. */
+const isSaid = ({ line, next }: Copied, read: string, note: string) =>
+  line === read && (next === "" ? ownNote(note) === note : note.startsWith(`${stateOf(stepNamed(next))} `));
+
+/** Whether lines say what was copied, with its notes, and nothing more. */
+export const areSaid = (copied: Copied[], lines: { line: string; note: string }[]) =>
+  lines.length === copied.length && copied.every((each) =>
     lines.some(({ line, note }) => isSaid(each, line, note) && ownNote(note) === each.note));
 
 /** Lines that were read of a text: those that say what was kept are that. If it is no copy, one's own notes stay. */
-export const asCopied = (lines: Candidate[], copied: Candidate[], own: Candidate[]) => [...lines.map((each) => ({
-  ...(copied.find((one) => isSaid(one, inOne(each.parts), each.note)) ?? each),
-  note: ownNote(each.note).slice(0, LONGEST_NOTE),
-})), ...(copied.length > 0 ? [] : own)];
+export const asCopied = (lines: Candidate[], copied: Copied[], own: Candidate[]) => [...lines.map((each) => {
+  const { parts, next } = copied.find((one) => isSaid(one, inOne(each.parts), each.note)) ?? each;
+  return { parts, next, note: ownNote(each.note).slice(0, LONGEST_NOTE) };
+}), ...(copied.length > 0 ? [] : own)];
 
 /** What is kept once a line is starred, or no longer if it was. */
 export function withStar(candidates: Candidate[], parts: Part[], next: string): Candidate[] {
