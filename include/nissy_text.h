@@ -43,8 +43,7 @@ enum nissy_line_kind {
 enum nissy_doubt {
     NISSY_NO_DOUBT = 0,
     NISSY_ANOTHER_SCRAMBLE = 1,  /* moves stand before or after all of a scramble, or it has no steps and others of the text begin and end with
-                                  * R' U' F; of a check: it has no solution, and by itself is solved, or another one stands beside a known
-                                  * scramble's solution */
+                                  * R' U' F; of a check: by itself it is solved, or another one stands beside a known scramble's solution */
     NISSY_SEVERAL_SOLUTIONS = 2, /* which of several groups is the solution can't be seen, or a list has those of several scrambles */
     NISSY_SIDE = 3,              /* another side than the normal one is named, such as the inverse, and the moves have no brackets */
     NISSY_LETTERS = 4,           /* letters stand together as moves don't elsewhere in the line, such as F2L or xD */

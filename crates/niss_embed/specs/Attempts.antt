@@ -48,12 +48,9 @@ abbrev pub first_doubt : List TextLine → Doubt
 first_doubt [] = no_doubt
 first_doubt (line ∷ lines) = if line.doubt == 0 then first_doubt lines else doubt line.doubt line.doubt_at
 
--- What makes one doubt the reading of an attempt with this scramble: its lines, or that it has no solution, and its scramble
--- by itself is solved, so that the solution may stand in it.
-abbrev pub own_doubt : List TextLine → (scramble places : List ℕ) → Doubt
-own_doubt lines scramble places =
-    if ((first_doubt lines).reason == 0) && (not (list_any (is_wanted Solution) lines) && (check_of scramble []).solved)
-    then doubt 1 (get_or places 0 no_place) else first_doubt lines
+-- a scramble whose bytes have places in the text is solved by itself
+abbrev pub is_solved : (scramble places : List ℕ) → Bool
+is_solved scramble places = not (length places == 0) && (check_of scramble []).solved
 
 -- where the fault stands that a check tells of a scramble or a solution, by the places of both
 abbrev pub fault_place : CheckAnswer → (scramble_places solution_places : List ℕ) → ℕ
@@ -78,10 +75,12 @@ pub record IsDoubtOfSteps (text : List ℕ) (lines : List TextLine) (scramble : 
   pub tells : TellsPart scramble steps part
   pub told_is : told ≡ doubt_of_part part places
 
--- The doubt is that of the reading, or if there is none of the steps of what isn't solved.
-abbrev pub IsDoubt : (of_steps : Bool) → (text : List ℕ) (lines : List TextLine) (scramble : List ℕ) (read told : Doubt) → Type 0
-IsDoubt true text lines scramble read told = IsDoubtOfSteps text lines scramble told
-IsDoubt false text lines scramble read told = told ≡ read
+-- The doubt is that of the reading, or if there is none, of what isn't solved: the scramble if that is solved by itself, else
+-- the steps.
+abbrev pub IsDoubt : (is_unsolved is_solved : Bool) → (text : List ℕ) (lines : List TextLine) (scramble places : List ℕ) (read told : Doubt) → Type 0
+IsDoubt true true text lines scramble places read told = told ≡ doubt 1 (get_or places 0 no_place)
+IsDoubt true false text lines scramble places read told = IsDoubtOfSteps text lines scramble told
+IsDoubt false is_solved text lines scramble places read told = told ≡ read
 
 -- What is told of an attempt with these lines and this scramble, of which each byte has its place, and of whose reading
 -- this makes one doubt it.
@@ -93,14 +92,15 @@ pub record IsChecked (text : List ℕ) (lines : List TextLine) (scramble places 
   pub fault_is : it.fault_at ≡ fault_place it.check places solution_places
   pub checked_is : it.is_checked ≡ list_any (is_wanted Solution) lines
   pub counts : it.is_doubted ≡ (is_unsolved it.is_checked it.check && not (it.doubt == 0))
-  pub doubt_is : IsDoubt ((read.reason == 0) && is_unsolved it.is_checked it.check) text lines scramble read (doubt it.doubt it.doubt_at)
+  pub doubt_is : IsDoubt ((read.reason == 0) && is_unsolved it.is_checked it.check) (is_solved scramble places)
+      text lines scramble places read (doubt it.doubt it.doubt_at)
 
 -- The same of an attempt whose scramble stands in its lines.
 pub record IsOwn (text : List ℕ) (lines : List TextLine) (it : Judged) : Type 0 where
   pub scramble : List ℕ
   pub places : List ℕ
   pub is_scramble : AreWritten text Scramble lines scramble places
-  pub is_checked : IsChecked text lines scramble places (own_doubt lines scramble places) it
+  pub is_checked : IsChecked text lines scramble places (first_doubt lines) it
 
 -- the line before those that belong together, which it does too if it is of the same attempt
 abbrev pub with_line : TextLine → List (List TextLine) → List (List TextLine)

@@ -5,7 +5,7 @@ ghost use Rattle.std.specs.List.{list_any};
 ghost use Rattle.niss_text.specs.Moves.{is_wanted, number_of_moves, most_bytes};
 ghost use Rattle.niss_text.specs.declared.moves.MovesOf.{MovesOf};
 ghost use Rattle.niss_text.specs.declared.moves.MovesOf.TheVariants.{Solution};
-ghost use Rattle.niss_embed.specs.Attempts.{AreWritten, IsChecked, IsDoubt, IsOwn, doubt, no_doubt, no_place, own_doubt};
+ghost use Rattle.niss_embed.specs.Attempts.{AreWritten, IsChecked, IsDoubt, IsOwn, doubt, is_solved, no_doubt, no_place};
 ghost use Rattle.niss_embed.specs.Attempts.{first_doubt, fault_place, is_unsolved, doubt_of_part, IsDoubtOfSteps};
 
 use crate::fact_answers::CheckAnswer;
@@ -40,8 +40,8 @@ pub struct Judged {
     pub fault_at: usize,
     /// Where the doubt stands.
     pub doubt_at: usize,
-    /// What makes one doubt it, by its number: what its lines say, else 1 if it has no solution and its scramble by itself
-    /// is solved, or 9 if a part of its steps solves; 0 for nothing.
+    /// What makes one doubt it, by its number: what its lines say, else 1 if its scramble by itself is solved, or 9 if a part
+    /// of its steps solves; 0 for nothing.
     pub doubt: u8,
     /// Whether the doubt counts: nothing is at fault, and there is no solution that solves.
     pub is_doubted: bool,
@@ -184,6 +184,13 @@ fn doubt_of_steps(
 }
 
 impl Given<'_> {
+    /// Whether the scramble stands in the text, and by itself is solved: the solution may stand in it.
+    fn is_solved(&self) -> bool
+        ensures { result ≡ is_solved self.now.scramble.now self.now.places.now }
+    {
+        !self.places.is_empty() && check_line(self.scramble, &[]).solved
+    }
+
     /// What makes one doubt the attempt, which is solved, at fault, or neither.
     fn doubt_of(
         &self,
@@ -193,14 +200,20 @@ impl Given<'_> {
         out: &mut [u8],
         places: &mut [u64],
     ) -> Option<Doubt>
-        ensures is { IfSome result (λ told. IsDoubt ((self.now.doubt.reason == 0) && is_unsolved) text.now lines.now self.now.scramble.now self.now.doubt told) }
+        ensures is { IfSome result (λ told. IsDoubt ((self.now.doubt.reason == 0) && is_unsolved) (is_solved self.now.scramble.now self.now.places.now)
+            text.now lines.now self.now.scramble.now self.now.places.now self.now.doubt told) }
         ensures room { most_bytes lines.now ≤ length out.old → most_bytes lines.now ≤ length places.old → IsSome result }
     {
         if self.doubt.reason == 0 && is_unsolved {
-            doubt_of_steps(text, lines, self.scramble, out, places)
-        } else {
-            Some(self.doubt)
+            if self.is_solved() {
+                return Some(Doubt {
+                    reason: ANOTHER_SCRAMBLE,
+                    at: place_at(self.places, 0),
+                });
+            }
+            return doubt_of_steps(text, lines, self.scramble, out, places);
         }
+        Some(self.doubt)
     }
 }
 
@@ -231,21 +244,6 @@ pub(crate) fn check_by(
     })
 }
 
-/// What makes one doubt the reading of an attempt by its lines and its scramble, which is solved by nothing only if it has
-/// the solution in it.
-fn own_doubt(lines: &[TextLine], scramble: &[u8], places: &[u64]) -> Doubt
-    ensures { result ≡ own_doubt lines.now scramble.now places.now }
-{
-    let doubt = first_doubt(lines);
-    if doubt.reason == 0 && (!has_solution(lines) && check_line(scramble, &[]).solved) {
-        return Doubt {
-            reason: ANOTHER_SCRAMBLE,
-            at: place_at(places, 0),
-        };
-    }
-    doubt
-}
-
 /// Checks the solution of an attempt by the scramble among its lines. The rooms are for both, half and half.
 pub(crate) fn check_own(
     text: &[u8],
@@ -260,11 +258,10 @@ pub(crate) fn check_own(
     let (scramble, out) = out.split_at_mut(half);
     let (scramble_places, places) = places.split_at_mut(half);
     let count = moves_of(text, lines, OF_SCRAMBLE, scramble, scramble_places)?;
-    let (scramble, scramble_places) = (&scramble[..count], &scramble_places[..count]);
     let given = Given {
-        scramble,
-        places: scramble_places,
-        doubt: own_doubt(lines, scramble, scramble_places),
+        scramble: &scramble[..count],
+        places: &scramble_places[..count],
+        doubt: first_doubt(lines),
     };
     check_by(text, lines, &given, out, places)
 }
