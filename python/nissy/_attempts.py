@@ -1,8 +1,9 @@
 """Reads what solvers write down of their attempts, by the library: scrambles, each with the steps of a solution and
 candidates beside it. Nothing of it is called at fault here: what is no line of moves is at fault where it is used."""
 import ctypes
+from bisect import bisect_right
 from functools import reduce
-from itertools import accumulate, groupby
+from itertools import accumulate, compress
 from operator import ne, or_
 from typing import Any, Callable, Iterator, List, NamedTuple, Optional, Sequence, Tuple
 
@@ -93,8 +94,8 @@ class Moves:
     """The moves of those lines of a text that are wanted, written one after another."""
 
     def __init__(self, whole: Written, written: WrittenLine, nth: Sequence[int], parts: bytes) -> None:
-        # how many lines before each one of the text are wanted
-        self._nth = nth
+        # how many lines before each one of the text, and before its end, are wanted
+        self.nth = nth
         # where the moves of each of them stand, with the library's number for what it leaves out
         numbers = memoryview(parts).cast("Q")
         self._begins, self._ends = (numbers[at :: _PART // 8].tolist() for at in range(2))
@@ -102,12 +103,12 @@ class Moves:
 
     def of_line(self, line: int) -> PlainLine:
         """Returns the moves of one of those lines."""
-        nth = self._nth[line]
+        nth = self.nth[line]
         return self._cut(self._begins[nth], self._ends[nth], self._left_out[nth])
 
     def of(self, begin: int, end: int) -> PlainLine:
         """Returns the moves of the lines from one to another as one line."""
-        first, last = self._nth[begin], self._nth[end] - 1
+        first, last = self.nth[begin], self.nth[end] - 1
         if first > last:
             return NOTHING
         left_out = self._left_out[first]
@@ -134,6 +135,11 @@ class Reader:
         self._numbers = self._told.cast("Q")
         self._group = self._numbers[_GROUP::_NUMBERS].__getitem__
         self._of_scramble, self._of_steps = self._moves(_OF_SCRAMBLE, SCRAMBLE), self._moves(_OF_STEPS, STEP)
+        # of each step its line, whether it is of the solution, and its group: in an attempt none is less than one before
+        are_steps = self._kinds.translate(_IS_OF[STEP])
+        self._steps_at = [*compress(range(self.count), are_steps)]
+        self._told_steps = bytes(compress(self._are_solution, are_steps))
+        self._groups = [*compress(self._numbers[_GROUP::_NUMBERS], are_steps)]
 
     def _words(self, line: int, begin: int, end: int) -> str:
         """Returns what stands in a line from one of its places to another."""
@@ -180,21 +186,22 @@ class Reader:
         steps = self._steps(lines)
         return steps, steps[0] if len(steps) == 1 else self._of_steps.of(lines[0], lines[-1] + 1)
 
-    def _candidates(
-        self, begin: int, end: int, steps: Sequence[int], told: Sequence[int], made: _Joined
-    ) -> Iterator[AttemptCandidate]:
+    def _candidates(self, begin: int, end: int, told: Sequence[int], made: _Joined) -> Iterator[AttemptCandidate]:
         """Returns the groups of an attempt that have steps, but the first one. What is made already is of the steps
         that are told."""
-        groups = [(group, [*lines]) for group, lines in groupby(steps, self._group)]
-        # a group's other lines are between the steps of the groups before it and after it
-        ends = [*(lines[0] for _, lines in groups[1:]), end]
-        is_said = self._kinds.find(_NOTE, begin, end) >= 0 or self._are_labelled.find(1, begin, end) >= 0
-        for (group, own), after in zip(groups, ends):
+        first, last = self._of_steps.nth[begin], self._of_steps.nth[end]
+        is_said = _NOTE in self._kinds[begin:end] or 1 in self._are_labelled[begin:end]
+        while first < last:
+            group = self._groups[first]
+            next_one = bisect_right(self._groups, group, first, last)
+            own = self._steps_at[first:next_one]
             if group > 0:
                 every, solution = made if own == told else self._joined(own)
+                # a group's other lines are between the steps of the groups before it and after it
+                after = self._steps_at[next_one] if next_one < last else end
                 said = self._said_of(group, begin, after) if is_said else ""
                 yield value_of(AttemptCandidate, (every, solution, said))
-            begin = own[-1]
+            begin, first = own[-1], next_one
 
     def _said_of(self, group: int, begin: int, end: int) -> str:
         """Returns what is said of a group on lines of its own among some, else its label that says that the solution
@@ -206,14 +213,14 @@ class Reader:
 
     def _after_scramble(self, begin: int, end: int) -> _AfterScramble:
         """Returns the steps, the solution and the candidates of an attempt that has steps."""
-        kinds, are_solution = self._kinds, self._are_solution
-        every = [at for at in range(begin, end) if kinds[at] == STEP]
-        told = [at for at in every if are_solution[at]]
-        has_groups = self._group(every[-1]) > 0
-        under = [at for at in every if self._group(at) == 0] if has_groups else every
+        first, last = self._of_steps.nth[begin], self._of_steps.nth[end]
+        every = self._steps_at[first:last]
+        told = [*compress(every, self._told_steps[first:last])]
+        has_groups = self._groups[last - 1] > 0
+        under = every[: self._groups[first:last].count(0)] if has_groups else every
         made = self._joined(told) if told else _NONE
         steps = made[0] if not under or under == told else self._steps(under)
-        candidates = tuple(self._candidates(begin, end, every, told, made)) if has_groups else ()
+        candidates = tuple(self._candidates(begin, end, told, made)) if has_groups else ()
         return steps, made[1] if told else None, candidates
 
     def attempt(self, begin: int, end: int, doubt: Optional[AttemptDoubt]) -> Attempt:

@@ -10,7 +10,7 @@ from ._given import Text, bytes_of, each_of
 from ._lazily import Lazily
 from ._library import ATTEMPT_CHECK, DONE, FAULT, KNOWN_PART, MOST_INPUT
 from ._lines import fault_of, fault_text
-from ._tokens import forms_of
+from ._tokens import forms_of, items_with_forms
 from ._values import Fault, LineFault, value_of
 from ._written import PlainLine, TextPlace, Written, end_unless_made, string_of
 
@@ -178,8 +178,8 @@ def _fault(attempt: Attempt, status: int, fault: int, column: int, number: int) 
 def _forms_in(solution: PlainLine, whole: Written) -> Tuple[FormInText, ...]:
     """Returns where a solution that was read has forms."""
     places, place = solution.places, whole.place
-    found = forms_of(solution.line)
-    return tuple([value_of(FormInText, (text, forms, place(places[at]))) for text, forms, at in found])
+    found = items_with_forms(solution.line)
+    return tuple([value_of(FormInText, (it[0], forms_of(it[0]), place(places[it.start()]))) for it in found])
 
 
 def check_attempts(text: Text, *, scrambles: Optional[Iterable[Text]] = None) -> Sequence[AttemptCheck]:

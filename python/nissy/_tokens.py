@@ -2,7 +2,7 @@
 import re
 import sys
 from functools import lru_cache
-from typing import Dict, Iterator, List, NamedTuple, Tuple
+from typing import Dict, List, NamedTuple, Tuple
 
 from ._given import Text, bytes_of
 from ._lines import unniss
@@ -19,7 +19,7 @@ _LETTERS, _SUFFIX = "[UDRLFB]w?|[udrlfbMESxyz]", "2?['\u2019]|2"
 # a bracket, or a move by these parts
 _ITEM = re.compile(f"([()])|({_LETTERS})({_SUFFIX})?")
 # those that have forms: by the letters, or else by what follows them
-_WITH_FORMS = re.compile(f"[()]|[udrlfbMES](?:{_SUFFIX})?|(?:{_LETTERS})(?:2?\u2019|2')")
+items_with_forms = re.compile(f"[()]|[udrlfbMES](?:{_SUFFIX})?|(?:{_LETTERS})(?:2?\u2019|2')").finditer
 _QUARTERS = {"": 1, "2": 2, "'": -1, "\u2019": -1, "2'": 2, "2\u2019": 2}
 _APOSTROPHE = "\u2019"
 _SUFFIXES = {1: "", 2: "2", -1: "'"}
@@ -92,7 +92,8 @@ def tokens(line: Text) -> List[Token]:
 
 
 @lru_cache(maxsize=None)
-def _forms_of(item: str) -> Tuple[str, ...]:
+def forms_of(item: str) -> Tuple[str, ...]:
+    """Returns the forms of a move or a bracket, by their names."""
     has = {
         "slices": item[0] in "MES",
         "lower_case": item[0] in "udrlfb",
@@ -109,16 +110,9 @@ def form_places(line: Text) -> List[FormPlace]:
     data = bytes_of(line, "the line")
     unniss(data)
     # each apostrophe beyond ASCII has two bytes more, and no other sign of a line that is read has
-    text, more, found = data.decode(), 0, []
-    for item, forms, at in forms_of(text):
-        found.append(FormPlace(item, forms, at + more + 1, at + 1))
+    more, found = 0, []
+    for it in items_with_forms(data.decode()):
+        item, at = it[0], it.start()
+        found.append(FormPlace(item, forms_of(item), at + more + 1, at + 1))
         more += 2 * item.count(_APOSTROPHE)
     return found
-
-
-def forms_of(text: str) -> Iterator[Tuple[str, Tuple[str, ...], int]]:
-    """Yields each move and bracket that has forms, of a line that the library has read, with these and its place, from
-    0."""
-    for it in _WITH_FORMS.finditer(text):
-        item = it.group()
-        yield item, _forms_of(item), it.start()
