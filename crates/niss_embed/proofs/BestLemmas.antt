@@ -44,7 +44,7 @@ found_after lines o w room room_now found told stands grows looks tells =
 
 pub not_found : (lines : Result Both Nowhere) (why : Nowhere) (w : WaysWanted) (room : List Way) (told : WaysAnswer) → StartsAfter lines (Err why)
     → told ≡ nowhere_answer why → FindsAfter lines w room room told
-not_found (Ok lines) why w room told stands is = inl (record { same = refl; told_is = is ∙ ap nowhere_answer stands })
+not_found (Ok lines) why w room told stands is = inl (stands.1, record { same = refl; told_is = is ∙ ap nowhere_answer stands.0 })
 not_found (Err due) why w room told stands is = record { same = refl; told_is = is ∙ ap nowhere_answer stands }
 
 -- the line of where one stands is written, or there is none
@@ -55,5 +55,5 @@ line_written (Err why) o out told stands is = absurd stands
 
 pub line_not_written : (lines : Result Both Nowhere) (why : Nowhere) (out : Memory) (told : LineAfterAnswer) → StartsAfter lines (Err why)
     → told ≡ unwritten_line why → out.after ≡ out.before → WritesLineAfter lines out told
-line_not_written (Ok lines) why out told stands is same = inl (is ∙ ap unwritten_line stands, same)
+line_not_written (Ok lines) why out told stands is same = inl (stands.1, (is ∙ ap unwritten_line stands.0), same)
 line_not_written (Err due) why out told stands is same = (is ∙ ap unwritten_line stands, same)

@@ -53,5 +53,5 @@ not_started (Err why) o step w room room_now told stands may same is = absurd st
 
 pub not_listed : (lines : Result two.Both Nowhere) (why : Nowhere) (step : Step) (w : SidesWanted) (room : List Part) (told : SidesAnswer)
     → StartsAfter lines (Err why) → told ≡ nowhere_sides why → ListsAfter lines step w room room told
-not_listed (Ok lines) why step w room told stands is = inl (record { same = refl; told_is = is ∙ ap nowhere_sides stands })
+not_listed (Ok lines) why step w room told stands is = inl (stands.1, record { same = refl; told_is = is ∙ ap nowhere_sides stands.0 })
 not_listed (Err due) why step w room told stands is = record { same = refl; told_is = is ∙ ap nowhere_sides stands }

@@ -5,6 +5,7 @@ use Rattle.niss_moves.specs.Cleaning.{clean_turns}
 use Rattle.niss_moves.specs.Text.{with_words, turn_words}
 use Rattle.niss_shell.specs.Words.{most_limit}
 use Rattle.niss_ways.specs.Rooms.{Grows}
+use Rattle.niss_ways.specs.Starts.{AreTooMany}
 use Rattle.niss_ways.specs.Truth.{Origin}
 use Rattle.niss_ways.specs.declared.way.Way.{Way}
 use Rattle.niss_ways.specs.declared.finding.FoundWays.{FoundWays}
@@ -93,7 +94,8 @@ pub record OnlyTells (due : WaysAnswer) (room room_now : List Way) (told : WaysA
 abbrev pub FindsAfter : Result Both Nowhere → WaysWanted → (room room_now : List Way) → WaysAnswer → Type 0
 FindsAfter (Err why) w room room_now told = OnlyTells (nowhere_answer why) room room_now told
 FindsAfter (Ok lines) w room room_now told =
-    OnlyTells (nowhere_answer TooMany) room room_now told ⊎ ((o : Origin) × Stands lines o × FindsWays o w room room_now told)
+    (AreTooMany lines.scramble lines.so_far × OnlyTells (nowhere_answer TooMany) room room_now told)
+    ⊎ ((o : Origin) × Stands lines o × FindsWays o w room room_now told)
 
 -- The same of any numbers and any lines.
 pub record FindsBest (w : WaysWanted) (scramble so_far : List ℕ) (room room_now : List Way) (told : WaysAnswer) : Type 0 where
@@ -125,7 +127,8 @@ pub record WritesTurns (turns : List Turn) (out : Memory) (told : LineAfterAnswe
 abbrev pub WritesLineAfter : Result Both Nowhere → Memory → LineAfterAnswer → Type 0
 WritesLineAfter (Err why) out told = (told ≡ unwritten_line why) × (out.after ≡ out.before)
 WritesLineAfter (Ok lines) out told =
-    ((told ≡ unwritten_line TooMany) × (out.after ≡ out.before)) ⊎ ((o : Origin) × Stands lines o × WritesTurns o.line out told)
+    (AreTooMany lines.scramble lines.so_far × (told ≡ unwritten_line TooMany) × (out.after ≡ out.before))
+    ⊎ ((o : Origin) × Stands lines o × WritesTurns o.line out told)
 
 -- What the call does by tables that a caller keeps, which may be right or not.
 pub record FindsBestWith (AreRight : Type 0) (w : WaysWanted) (scramble so_far : List ℕ) (room room_now : List Way) (told : WaysAnswer)

@@ -7,6 +7,7 @@ use Rattle.niss_search.specs.declared.searching.both.Sides.{Sides}
 use Rattle.niss_search.specs.declared.searching.both.Sides.TheVariants.{Normal, Inverse, Both}
 use Rattle.niss_shell.specs.Words.{most_limit}
 use Rattle.niss_ways.specs.Listing.{Lists}
+use Rattle.niss_ways.specs.Starts.{AreTooMany}
 use Rattle.niss_ways.specs.Truth.{Origin}
 use Rattle.niss_ways.specs.declared.listing.FoundSolutions.{FoundSolutions}
 use Rattle.niss_ways.specs.declared.listing.Listed.{Listed}
@@ -89,7 +90,7 @@ ListsOrNot false o step w room room_now told = OnlySaid (nowhere_sides NoStart) 
 abbrev pub ListsAfter : Result two.Both Nowhere → Step → SidesWanted → (room room_now : List Part) → SidesAnswer → Type 0
 ListsAfter (Err why) step w room room_now told = OnlySaid (nowhere_sides why) room room_now told
 ListsAfter (Ok lines) step w room room_now told =
-    OnlySaid (nowhere_sides TooMany) room room_now told
+    (AreTooMany lines.scramble lines.so_far × OnlySaid (nowhere_sides TooMany) room room_now told)
     ⊎ ((o : Origin) × Stands lines o × ListsOrNot (may_start step (map_of o.cube)) o step w room room_now told)
 
 -- The same of any numbers and any lines.

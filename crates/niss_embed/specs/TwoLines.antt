@@ -8,7 +8,7 @@ use Rattle.niss_moves.specs.Reader.{read_line}
 use Rattle.niss_moves.specs.declared.fault.ReadFault.{ReadFault}
 use Rattle.niss_cube.specs.Map.{map_of}
 use Rattle.niss_shell.specs.Words.{most_bytes}
-use Rattle.niss_ways.specs.Starts.{IsAfter}
+use Rattle.niss_ways.specs.Starts.{AreTooMany, IsAfter}
 use Rattle.niss_ways.specs.Truth.{Origin}
 use Rattle.niss_ways.specs.declared.start.Start.{Start}
 use Rattle.niss_embed.specs.LineCalls.{fault_number}
@@ -70,6 +70,6 @@ pub record Stands (lines : Both) (o : Origin) : Type 0 where
 -- Where one stands after both, or why there is no such cube.
 abbrev pub StartsAfter : Result Both Nowhere → Result Start Nowhere → Type 0
 StartsAfter (Ok lines) (Ok start) = Stands lines start
-StartsAfter (Ok lines) (Err why) = why ≡ TooMany
+StartsAfter (Ok lines) (Err why) = (why ≡ TooMany) × AreTooMany lines.scramble lines.so_far
 StartsAfter (Err why) (Ok start) = ⊥
 StartsAfter (Err why) (Err told) = told ≡ why

@@ -1,9 +1,9 @@
--- Turns that are made moves are cleaned as they are.
-use Rattle.std.proofs.Common.{◌≡◌, refl, ap, sym, ◌∙◌, subst, List, [], ◌∷◌, ◌++◌, map, append_assoc}
+-- Turns that are made moves are cleaned as they are, and no more are left of them.
+use Rattle.std.proofs.Common.{◌≡◌, ◌⊎◌, inl, inr, ◌<◌, ◌≤◌, refl, ap, sym, ◌∙◌, subst, arith, List, [], ◌∷◌, ◌++◌, length, map, append_assoc}
 use Rattle.niss_moves.specs.declared.turn.Turn.{Turn}
 use Rattle.niss_moves.specs.declared.token.Token.{Token}
 use Rattle.niss_moves.specs.declared.token.Token.TheVariants as token
-use Rattle.niss_moves.specs.Cleaning.{Cleans, clean_turns}
+use Rattle.niss_moves.specs.Cleaning.{Clean, Cleans, IsRewriting, Rewrite, clean_turns, disorder}
 use Rattle.niss_moves.specs.Rotations.{faces}
 
 pub faces_of_turns : (s : List Turn) → faces (map token.Face s) ≡ s
@@ -29,3 +29,13 @@ pub cleaned_as_turns : (made first then : List Turn) (moves : List Token) (c : L
 cleaned_as_turns made first then moves c e all one h =
     let same : faces moves ≡ made ++ first ++ then = ap faces e ∙ faces_of_three made first then in
     one (made ++ first ++ then) c (clean_turns (made ++ first ++ then)) (subst (λ (s : List Turn). Cleans s c) same h) (all (made ++ first ++ then))
+
+-- no rewriting leaves more turns, by the law that says what one does
+module _ (lowers : (s t : List Turn) → IsRewriting s t → (length t < length s) ⊎ ((length t ≡ length s) × (disorder t < disorder s))) where
+  no_more_by : (s t c : List Turn) → (length t < length s) ⊎ ((length t ≡ length s) × (disorder t < disorder s)) → length c ≤ length t → length c ≤ length s
+  no_more_by s t c (inl less) rest = omega (arith, less, rest)
+  no_more_by s t c (inr same) rest = omega (arith, same.0, rest)
+
+  pub no_more_cleaned : (s c : List Turn) → Cleans s c → length c ≤ length s
+  no_more_cleaned s c (Clean h) = omega arith
+  no_more_cleaned s c (Rewrite {t = t} step rest) = no_more_by s t c (lowers s t step) (no_more_cleaned t c rest)

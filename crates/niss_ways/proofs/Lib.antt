@@ -7,3 +7,4 @@ pub mod RoomLemmas
 pub mod SinkLemmas
 pub mod TruthLemmas
 pub mod KeptLemmas
+pub mod TurnLemmas

@@ -18,6 +18,9 @@ module _ {X : Type 0} (f : X → ℕ) where
     pub sorted : Sorted n old → (i j : ℕ) (d : X) → i < j → j < n + 1 → i ≢ at → j ≢ at → f (get_or xs i d) ≤ f (get_or xs j d)
     pub above : (j : ℕ) (d : X) → at < j → j < n + 1 → r < f (get_or xs j d)
     pub stay : (j : ℕ) (d : X) → j < n → (k : ℕ) × (k < n + 1) × (k ≢ at) × (get_or xs k d ≡ get_or old j d)
+    -- those before the free one stand where they stood, and the others one place further
+    pub before : (k : ℕ) (d : X) → k < at → get_or xs k d ≡ get_or old k d
+    pub behind : (k : ℕ) (d : X) → at ≤ k → k < n → get_or xs (suc k) d ≡ get_or old k d
 
   pub begun : (old : List X) (n r : ℕ) → Open old n r n old
   begun old n r = record {
@@ -25,6 +28,8 @@ module _ {X : Type 0} (f : X → ℕ) where
     sorted = λ h i j d ij jn ni nj. h i j d ij (omega arith);
     above = λ j d lt jn. absurd (omega arith);
     stay = λ j d lt. (j, (omega arith), (λ e. absurd (omega arith)), refl);
+    before = λ k d lt. refl;
+    behind = λ k d le lt. absurd (omega arith);
   }
 
   module _ (old : List X) (n r at : ℕ) (xs : List X) (x : X) (o : Open old n r (suc at) xs)
@@ -45,7 +50,14 @@ module _ {X : Type 0} (f : X → ℕ) where
       sorted = λ h i j d ij jn ni nj. sorted_at h i j d ij jn ni nj (same_or_not i (suc at)) (same_or_not j (suc at));
       above = λ j d jt jn. above_at j d jt jn (same_or_not j (suc at));
       stay = λ j d jn. let w = o.stay j d jn in stay_at j d w.0 w.1 w.2 w.3 (same_or_not w.0 at);
+      before = λ k d less. other_now k d (λ e. absurd (omega arith)) ∙ o.before k d (omega arith);
+      behind = λ k d le kn. behind_at k d le kn (same_or_not k at);
     } where
+      behind_at : (k : ℕ) (d : X) → at ≤ k → k < n → (k ≡ at) ⊎ (k ≢ at) → get_or now (suc k) d ≡ get_or old k d
+      behind_at k d le kn (inl e) =
+          ap (λ (m : ℕ). get_or now (suc m) d) e ∙ here_now d ∙ sym (is d) ∙ o.before at d (omega arith) ∙ sym (ap (λ (m : ℕ). get_or old m d) e)
+      behind_at k d le kn (inr ne) = other_now (suc k) d (λ e. absurd (omega arith)) ∙ o.behind k d (omega arith) kn
+
       stay_at : (j : ℕ) (d : X) (k : ℕ) → k < n + 1 → k ≢ suc at → get_or xs k d ≡ get_or old j d → (k ≡ at) ⊎ (k ≢ at)
           → (m : ℕ) × (m < n + 1) × (m ≢ at) × (get_or now m d ≡ get_or old j d)
       stay_at j d k kn ne same (inl e) =
@@ -87,7 +99,7 @@ module _ {X : Type 0} (f : X → ℕ) where
     abbrev filled : List X
     filled = slice_set xs at w
 
-    here_filled : (d : X) → get_or filled at d ≡ w
+    pub here_filled : (d : X) → get_or filled at d ≡ w
     here_filled d = get_or-set_same xs at w d room
 
     other_filled : (k : ℕ) (d : X) → k ≢ at → get_or filled k d ≡ get_or xs k d
@@ -102,6 +114,17 @@ module _ {X : Type 0} (f : X → ℕ) where
 
     pub closed_stay : (j : ℕ) (d : X) → j < n → (k : ℕ) × (k < n + 1) × (get_or filled k d ≡ get_or old j d)
     closed_stay j d jn = let v = o.stay j d jn in (v.0, v.1, other_filled v.0 d v.2 ∙ v.3)
+
+    pub closed_before : (k : ℕ) (d : X) → k < at → get_or filled k d ≡ get_or old k d
+    closed_before k d lt = other_filled k d (λ e. absurd (omega arith)) ∙ o.before k d lt
+
+    pub closed_behind : (k : ℕ) (d : X) → at ≤ k → k < n → get_or filled (suc k) d ≡ get_or old k d
+    closed_behind k d le kn = other_filled (suc k) d (λ e. absurd (omega arith)) ∙ o.behind k d le kn
+
+    pub closed_after : (k : ℕ) (d : X) → at ≤ k → k < n → f w < f (get_or old k d)
+    closed_after k d le kn =
+        let same : f (get_or xs (suc k) d) ≡ f (get_or old k d) = ap f (o.behind k d le kn) in
+        let gt : r < f (get_or xs (suc k) d) = o.above (suc k) d (omega arith) (omega arith) in omega arith
 
     pub closed_sorted : ((d : X) → 0 < at → f (get_or xs (at - 1) d) ≤ f w) → Sorted n old → Sorted (n + 1) filled
     closed_sorted end h i j d ij jn = by_places (same_or_not i at) (same_or_not j at) where

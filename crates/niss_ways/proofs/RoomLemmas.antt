@@ -3,14 +3,15 @@ use Rattle.std.proofs.Common.{◌≡◌, ◌⊎◌, inl, inr, refl, sym, ◌∙�
 use Rattle.niss_search.specs.BothSides.{Pair, HandsOut}
 use Rattle.niss_search.specs.Delivery.{WentThrough, StoppedIn, WentInto, EndedIn}
 use Rattle.niss_ways.specs.Searched.{Searched}
-use Rattle.niss_ways.specs.Order.{IsSorted, AreWithin, AreKept, rank_of}
+use Rattle.niss_ways.specs.Order.{IsSorted, AreWithin, AreKept, AreInTurn, rank_of}
 use Rattle.niss_ways.specs.Rooms.{Grows}
 use Rattle.niss_ways.specs.Sinks.{KeepsRoom}
 use Rattle.niss_ways.specs.Truth.{Origin, IsWay, AreWays, AreFrom}
 use Rattle.niss_ways.specs.declared.way.Way.{Way}
+use Rattle.niss_ways.proofs.TurnLemmas.{in_turn_none, in_turn_then}
 
 pub grows_none : (o : Origin) (n : ℕ) (room : List Way) → Grows o n room n room
-grows_none o n room = record { same_length = refl; within = λ h. h; no_fewer = λ h. omega arith; sorted = λ h. h; kept = λ h s j d lt. inl (j, lt, refl); no_worse = λ r h s. s; true_rows = λ h. h }
+grows_none o n room = record { same_length = refl; within = λ h. h; no_fewer = λ h. omega arith; sorted = λ h. h; kept = λ h s j d lt. inl (j, lt, refl); in_turn = λ h s. in_turn_none n room; no_worse = λ r h s. s; true_rows = λ h. h }
 
 -- what was kept, and kept again, is kept
 kept_more : (i : ℕ) (x : List Way) (j : ℕ) (y : List Way) (k : ℕ) (z : List Way) → AreKept i x j y → AreKept j y k z → j ≤ k → k ≤ length z
@@ -35,6 +36,8 @@ grows_more o i x j y k z g h = record {
   no_fewer = λ w. omega (arith, g.no_fewer w, h.no_fewer (g.within w));
   sorted = λ s. h.sorted (g.sorted s);
   kept = λ w s. kept_more i x j y k z (g.kept w s) (h.kept (g.within w) (g.sorted s)) (h.no_fewer (g.within w)) (h.within (g.within w)) h.same_length h.no_worse;
+  in_turn = λ w s. in_turn_then i x j y k z (g.in_turn w s) (h.in_turn (g.within w) (g.sorted s)) (h.no_fewer (g.within w)) (h.within (g.within w))
+      h.same_length (g.no_fewer w) (g.within w) g.same_length;
   no_worse = λ r full s. h.no_worse r (omega (arith, full, g.no_fewer (omega (arith, full)), g.within (omega (arith, full)), g.same_length)) (g.no_worse r full s);
   true_rows = λ t. h.true_rows (g.true_rows t);
 }
@@ -42,13 +45,15 @@ grows_more o i x j y k z g h = record {
 -- A true way came.
 pub grows_by : (o : Origin) (way : Way) (n : ℕ) (old : List Way) (m : ℕ) (new : List Way) → IsWay o way → AreFrom way n old m new
     → (IsSorted n old → IsSorted m new) → m ≤ length new → length new ≡ length old → (n ≤ length old → n ≤ m)
-    → (n ≤ length old → IsSorted n old → AreKept n old m new) → ((r : ℕ) → n ≡ length old → AreWithin r n old → AreWithin r m new) → Grows o n old m new
-grows_by o way n old m new is from sorted within same no_fewer kept no_worse = record {
+    → (n ≤ length old → IsSorted n old → AreKept n old m new) → (n ≤ length old → IsSorted n old → AreInTurn n old m new)
+    → ((r : ℕ) → n ≡ length old → AreWithin r n old → AreWithin r m new) → Grows o n old m new
+grows_by o way n old m new is from sorted within same no_fewer kept in_turn no_worse = record {
   same_length = same;
   within = λ w. within;
   no_fewer = no_fewer;
   sorted = sorted;
   kept = kept;
+  in_turn = in_turn;
   no_worse = no_worse;
   true_rows = λ h k d lt. by_from h k d (from k d lt);
 } where
@@ -66,10 +71,10 @@ keeps_looks o most new_most name n room e = record { same_start = refl; same_mos
 -- A true way came.
 pub keeps_taken : (o : Origin) (most new_most name n : ℕ) (room : List Way) (way : Way) (m : ℕ) (new : List Way) → new_most ≡ most → IsWay o way
     → AreFrom way n room m new → (IsSorted n room → IsSorted m new) → m ≤ length new → length new ≡ length room → (n ≤ length room → n ≤ m)
-    → (n ≤ length room → IsSorted n room → AreKept n room m new) → ((r : ℕ) → n ≡ length room → AreWithin r n room → AreWithin r m new)
-    → KeepsRoom o most name n room o new_most name m new
-keeps_taken o most new_most name n room way m new e is from sorted within same no_fewer kept no_worse =
-    record { same_start = refl; same_most = e; same_room = refl; grows = grows_by o way n room m new is from sorted within same no_fewer kept no_worse }
+    → (n ≤ length room → IsSorted n room → AreKept n room m new) → (n ≤ length room → IsSorted n room → AreInTurn n room m new)
+    → ((r : ℕ) → n ≡ length room → AreWithin r n room → AreWithin r m new) → KeepsRoom o most name n room o new_most name m new
+keeps_taken o most new_most name n room way m new e is from sorted within same no_fewer kept in_turn no_worse =
+    record { same_start = refl; same_most = e; same_room = refl; grows = grows_by o way n room m new is from sorted within same no_fewer kept in_turn no_worse }
 
 pub keeps_more : (o : Origin) (a b i : ℕ) (x : List Way) (p : Origin) (c d j : ℕ) (y : List Way) (q : Origin) (e f k : ℕ) (z : List Way)
     → KeepsRoom o a b i x p c d j y → KeepsRoom p c d j y q e f k z → KeepsRoom o a b i x q e f k z

@@ -1,5 +1,5 @@
 -- Where one stands after a scramble and the moves so far.
-use Rattle.std.specs.Prelude.{◌≡◌, List, ◌++◌, map, reverse}
+use Rattle.std.specs.Prelude.{◌≡◌, ◌⊎◌, ◌<◌, ◌≤◌, List, ◌++◌, length, map, reverse}
 use Rattle.niss_moves.specs.Cleaning.{clean_turns}
 use Rattle.niss_moves.specs.Effects.{inverse, inverse_turn}
 use Rattle.niss_moves.specs.Line.{Moves, joined_moves}
@@ -16,12 +16,25 @@ turns_after held s = clean_turns (map (renamed_turn (face_before held)) (faces s
 -- The line has turns before the scramble, the scramble's, and those that were made on the normal side, as the cube is
 -- held after the scramble. What was made on the inverse undoes what comes before the scramble: the turns of moves that undo
 -- those in brackets, on a cube held in some way.
-pub record IsAfter (scramble so_far : Moves) (o : Origin) : Type 0 where
+pub record Leads (scramble so_far : Moves) (line on_normal on_inverse : List Turn) : Type 0 where
   pub held : Rotation
   pub of_scramble : IsRotationOf (joined_moves scramble) held
-  pub normal : o.normal ≡ turns_after held so_far.normal
+  pub normal : on_normal ≡ turns_after held so_far.normal
   pub before : List Turn
   pub held_last : Rotation
   pub undoes : before ≡ turns_after held_last (inverse so_far.bracketed)
-  pub inverse : o.inverse ≡ reverse (map inverse_turn before)
-  pub line : o.line ≡ before ++ faces (joined_moves scramble) ++ o.normal
+  pub inverse : on_inverse ≡ reverse (map inverse_turn before)
+  pub line_is : line ≡ before ++ faces (joined_moves scramble) ++ on_normal
+
+-- The moves so far are more than 200 face turns on a side, or the line has more than 512.
+abbrev pub AreTooMany : (scramble so_far : Moves) → Type 0
+AreTooMany scramble so_far =
+    (200 < length (faces so_far.normal)) ⊎ ((200 < length (faces (inverse so_far.bracketed)))
+    ⊎ ((line : List Turn) × (on_normal : List Turn) × (on_inverse : List Turn) × Leads scramble so_far line on_normal on_inverse × (512 < length line)))
+
+-- One stands there, and no moves are too many.
+pub record IsAfter (scramble so_far : Moves) (o : Origin) : Type 0 where
+  pub leads : Leads scramble so_far o.line o.normal o.inverse
+  pub few_normal : length (faces so_far.normal) ≤ 200
+  pub few_inverse : length (faces (inverse so_far.bracketed)) ≤ 200
+  pub few_in_all : length o.line ≤ 512

@@ -5,7 +5,7 @@ ghost use Rattle.niss_moves.specs.Effects.{inverse_turn};
 ghost use Rattle.niss_moves.specs.declared.token.Token.TheVariants as token;
 
 use arrayvec::ArrayVec;
-use niss_moves::laws::{cleaned_lines, one_clean_list};
+use niss_moves::laws::{cleaned_lines, cleaning_ends, one_clean_list};
 use niss_moves::{Faces, Token, Turn, cleanup};
 
 /// The turns of a solution on a side.
@@ -30,9 +30,11 @@ pub fn cleaned(made: &[Turn], first: &[Turn], then: &[Turn]) -> Faces
     requires { length made.now + length first.now + length then.now ≤ 256 }
     ensures turns { result.items ≡ clean_turns (made.now ++ first.now ++ then.now) }
     ensures few { length result.items ≤ 512 }
+    ensures no_more { length result.items ≤ length made.now + length first.now + length then.now }
 {
     cleaned_lines();
     one_clean_list();
+    cleaning_ends();
     let mut moves = Moves::new();
     push_turns(&mut moves, made);
     push_turns(&mut moves, first);

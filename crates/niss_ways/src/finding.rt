@@ -108,6 +108,7 @@ impl FoundWays {
 /// Finds the best ways on, and puts them in their order into the room, in which some may stand already at the front:
 /// those of other axes and lengths, as many as `there` says, or all if the room is smaller. What is found may be cut before
 /// the bound on looks is reached.
+#[tactic(auto, using(crate::proofs::TurnLemmas::in_turn_none))]
 pub fn find_ways<A: Allocator>(
     tables: &WayTables<A>,
     start: &Start,

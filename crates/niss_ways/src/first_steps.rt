@@ -1,5 +1,7 @@
 //! The solutions of the first step, and what is done with each. One type takes orientations and reductions, so that the
 //! search for both is compiled once.
+#![tactic(auto, using(crate::proofs::TurnLemmas::in_turn_none))]
+
 ghost use Rattle.std.specs.Prelude.{◌≡◌};
 ghost use Rattle.niss_ways.specs.Sinks.{Keeps};
 

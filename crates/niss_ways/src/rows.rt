@@ -1,6 +1,6 @@
 //! The best ways in a caller's room, in order.
 ghost use Rattle.std.specs.Prelude.{◌≡◌, ◌≤◌, ◌<◌, ◌+◌, ℕ, length};
-ghost use Rattle.niss_ways.specs.Order.{IsSorted, AreWithin, AreKept};
+ghost use Rattle.niss_ways.specs.Order.{IsSorted, AreWithin, AreKept, AreInTurn, IsPut};
 ghost use Rattle.niss_ways.specs.Truth.{AreFrom, AreStill};
 
 use crate::way::Way;
@@ -14,6 +14,7 @@ pub fn take(room: &mut [Way], count: usize, way: Way) -> usize
     ensures no_fewer { count ≤ length room.old → count ≤ result }
     ensures kept { count ≤ length room.old → IsSorted count room.old → AreKept count room.old result room.new }
     ensures no_worse { (rank : ℕ) → count ≡ length room.old → AreWithin rank count room.old → AreWithin rank result room.new }
+    ensures in_turn { count ≤ length room.old → IsSorted count room.old → AreInTurn count room.old result room.new }
     ensures length { length room.new ≡ length room.old }
 {
     let places = room.len();
@@ -36,6 +37,7 @@ fn insert(room: &mut [Way], way: Way, count: usize)
     ensures from { AreFrom way count room.old (count + 1) room.new }
     ensures still { AreStill count room.old (count + 1) room.new }
     ensures sorted { IsSorted count room.old → IsSorted (count + 1) room.new }
+    ensures put { IsPut way count room.old room.new }
     ensures length { length room.new ≡ length room.old }
 {
     let rank = way.rank();

@@ -2,8 +2,9 @@
 ghost use Rattle.niss_moves.specs.Effects.{effect_of_turns};
 ghost use Rattle.niss_moves.specs.Places.{SameMap};
 ghost use Rattle.niss_cube.specs.Map.{map_of};
-ghost use Rattle.std.specs.Prelude.{◌≡◌, ◌≤◌, ◌++◌, length, map, reverse, IfSome};
+ghost use Rattle.std.specs.Prelude.{◌≡◌, ◌<◌, ◌≤◌, ◌++◌, length, map, reverse, IfSome, MatchOption};
 ghost use Rattle.niss_moves.specs.Effects.{inverse, inverse_turn};
+ghost use Rattle.niss_moves.specs.Rotations.{faces};
 ghost use Rattle.niss_ways.specs.Starts.{turns_after};
 
 use crate::counting::{cleaned, inverse_of};
@@ -66,7 +67,8 @@ fn then(rotation: Rotation, next: Rotation) -> Rotation {
 /// they are too many.
 fn made_after(rotation: Rotation, moves: &[Token]) -> Option<(Faces, Rotation)>
     requires { length moves.now ≤ 256 }
-    ensures few { IfSome result (λ made. length made.0.items ≤ 200) }
+    ensures few { MatchOption result (200 < length (faces moves.now))
+        (λ made. (length (faces moves.now) ≤ 200) × (length made.0.items ≤ 200)) }
     ensures turns { IfSome result (λ made. made.0.items ≡ turns_after rotation moves.now) }
 {
     let (turns, left) = to_faces(moves);
@@ -81,9 +83,6 @@ fn made_after(rotation: Rotation, moves: &[Token]) -> Option<(Faces, Rotation)>
         });
     }
     let made = cleaned(renamed.as_slice(), &[], &[]);
-    if made.len() > MOST_MADE {
-        return None;
-    }
     Some((made, then(rotation, left)))
 }
 
@@ -111,7 +110,8 @@ fn names_after(rotation: Rotation) -> Names {
 
 /// Three sequences as one, if they aren't too many turns.
 fn joined(first: &[Turn], second: &[Turn], third: &[Turn]) -> Option<Faces>
-    ensures { IfSome result (λ all. all.items ≡ first.now ++ second.now ++ third.now) }
+    ensures { MatchOption result (512 < length (first.now ++ second.now ++ third.now))
+        (λ all. all.items ≡ first.now ++ second.now ++ third.now) }
 {
     let mut all = Faces::new();
     all.try_extend_from_slice(first).ok()?;
@@ -139,18 +139,18 @@ fn undoing(before: &Faces) -> Faces
 }
 
 impl Start {
-    ghost use Rattle.std.specs.Prelude.{◌≡◌, ◌≤◌, ◌<◌, length, IfSome, MatchOption};
+    ghost use Rattle.std.specs.Prelude.{◌≡◌, ◌≤◌, ◌<◌, length, MatchOption};
     ghost use Rattle.niss_moves.specs.Cleaning.{clean_turns};
     ghost use Rattle.niss_moves.specs.Effects.{effect_of_turns};
     ghost use Rattle.niss_moves.specs.Places.{SameMap};
     ghost use Rattle.niss_cube.specs.Map.{map_of};
-    ghost use Rattle.niss_ways.specs.Starts.{IsAfter};
+    ghost use Rattle.niss_ways.specs.Starts.{AreTooMany, IsAfter};
 
     /// The cube after a scramble and the moves so far; none if they are too many: more than 200 face turns on a side, or
     /// 512 in all. Moves in brackets come before the scramble, inverted; they name the faces as the moves outside brackets
     /// leave the cube.
     pub fn after(scramble: &Niss, so_far: &Niss) -> Option<Start>
-        ensures { IfSome result (λ start. IsAfter scramble.now so_far.now start) }
+        ensures { MatchOption result (AreTooMany scramble.now so_far.now) (λ start. IsAfter scramble.now so_far.now start) }
     {
         let (scrambled, held) = to_faces(unniss(scramble).as_slice());
         let (normal, held) = made_after(held, so_far.normal())?;

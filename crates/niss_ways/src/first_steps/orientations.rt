@@ -1,4 +1,6 @@
 //! The orientations, each class of twins with the best reductions after it.
+#![tactic(auto, using(crate::proofs::TurnLemmas::in_turn_none))]
+
 ghost use Rattle.std.specs.Prelude.{◌≡◌, ◌≤◌, length};
 ghost use Rattle.niss_ways.specs.Rooms.{Grows};
 ghost use Rattle.niss_ways.specs.Sinks.{Keeps, KeepsRows};

@@ -5,7 +5,7 @@ use Rattle.niss_ways.specs.Order.{rank_of}
 use Rattle.niss_ways.specs.declared.way.Part.{Part}
 use Rattle.niss_ways.specs.declared.way.SideTurns.{SideTurns}
 use Rattle.niss_ways.specs.declared.way.Way.{Way}
-use Rattle.niss_ways.proofs.OrderLemmas.{Open, begun, shifted, closed_from, closed_stay, closed_sorted}
+use Rattle.niss_ways.proofs.OrderLemmas.{Open, begun, shifted, closed_from, closed_stay, closed_sorted, closed_before, closed_behind, closed_after, here_filled}
 use Rattle.niss_ways.proofs.rows.insert.Goals as goal
 use Rattle.niss_ways.proofs.rows.insert.Goals.{else-loop-at-test, then-loop-at-test+then-rank}
 
@@ -64,3 +64,21 @@ returns-clause-sorted c =
     ] in
     closed_sorted rank_of c.args.room.now c.args.count c.rank-rank.result at xs c.args.way c.loop-at.invariant.free
     (omega (arith, c.loop-at.invariant.same, c.loop-at.invariant.there)) c.rank-rank.ensures at_end
+
+pub returns-clause-put : goal.returns-clause-put
+returns-clause-put c =
+    let xs = c.loop-at.room in
+    let at = c.loop-at.at in
+    let old = c.args.room.now in
+    let n = c.args.count in
+    let r = c.rank-rank.result in
+    let way = c.args.way in
+    let room : at < length xs = omega (arith, c.loop-at.invariant.same, c.loop-at.invariant.there) in
+    record {
+      at = at;
+      there = c.loop-at.invariant.there;
+      before = closed_before rank_of old n r at xs way c.loop-at.invariant.free room c.rank-rank.ensures;
+      here = here_filled rank_of old n r at xs way c.loop-at.invariant.free room c.rank-rank.ensures;
+      behind = closed_behind rank_of old n r at xs way c.loop-at.invariant.free room c.rank-rank.ensures;
+      after = closed_after rank_of old n r at xs way c.loop-at.invariant.free room c.rank-rank.ensures;
+    }
