@@ -135,7 +135,7 @@ class Reader:
         self._numbers = self._told.cast("Q")
         self._group = self._numbers[_GROUP::_NUMBERS].__getitem__
         self._of_scramble, self._of_steps = self._moves(_OF_SCRAMBLE, SCRAMBLE), self._moves(_OF_STEPS, STEP)
-        # of each step its line, whether it is of the solution, and its group: in an attempt none is less than one before
+        # of each step its line, whether it is of the solution, and its group, which never falls within an attempt
         are_steps = self._kinds.translate(_IS_OF[STEP])
         self._steps_at = [*compress(range(self.count), are_steps)]
         self._told_steps = bytes(compress(self._are_solution, are_steps))
