@@ -6,9 +6,6 @@ from steps import ADDRESS, EXAMPLE
 from tally import Tally
 from wanted import Position, answer
 
-# what the page asks of the engine comes late
-SLOW = """const { postMessage } = Worker.prototype;
-    Worker.prototype.postMessage = function (...words) { setTimeout(() => postMessage.apply(this, words), 500); }"""
 WRITTEN = "#scramble=" + EXAMPLE.replace(" ", "_").replace("'", "-")
 BLUR = "document.activeElement.blur()"
 # a step of the line is edited
@@ -205,8 +202,15 @@ def keys_rest(tally: Tally, browser: Browser) -> None:
         ("press", *"1iusn", fault),
         ("fill", "scramble", "R U F", {}),
     )
-    browser.script(SLOW + f";{BLUR}; document.querySelector(arguments[0]).click(); {BLUR}", LAST_STEP_AWAY)
-    browser.walk(tally, "while the next cells are looked for", ("press", "1", {"hash": "#scramble=R_U_F"}))
+    # no answer comes between what one script does
+    press = "dispatchEvent(new KeyboardEvent('keydown', { key: '1' }))"
+    take = f"{BLUR}; document.querySelector(arguments[0]).click(); {BLUR}; {press}"
+    browser.walk(
+        tally,
+        "while the next cells are looked for",
+        ("script", take, LAST_STEP_AWAY, {"hash": "#scramble=R_U_F"}),
+        ("script", press, {"hash": "?"}),
+    )
     browser.resize(640, 740)
     browser.walk(
         tally,

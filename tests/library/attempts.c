@@ -10,6 +10,18 @@ static guarded moves_of(guarded text, const nissy_text_line *lines, uint64_t cou
     return made;
 }
 
+/* Whether the doubt of an attempt is the first one of its lines; else, if it isn't solved, that its scramble by itself is, or else, if any, a part.
+ */
+static int is_doubt_of(const nissy_text_line *lines, uint64_t count, guarded scramble, const uint64_t *places, int is_unsolved,
+                       const nissy_attempt_check *it) {
+    uint64_t at = 0;
+    while (at < count && lines[at].doubt == NISSY_NO_DOUBT) at++;
+    if (at < count) return it->doubt == lines[at].doubt && it->doubt_at == lines[at].doubt_at;
+    if (is_unsolved && scramble.size > 0 && nissy_check(scramble.bytes, scramble.size, scramble.bytes, 0).solved)
+        return it->doubt == NISSY_ANOTHER_SCRAMBLE && it->doubt_at == places[0];
+    return it->doubt == NISSY_NO_DOUBT ? it->doubt_at == NISSY_NO_PLACE : it->doubt == NISSY_A_PART && is_unsolved;
+}
+
 /* Whether a check is what nissy_check says of the moves of its lines, and its fault and its doubt stand where they say. */
 static int is_check_of(guarded text, const nissy_text_line *lines, const nissy_attempt_check *it) {
     uint64_t places[2][96 * MOST_PARTS];
@@ -17,18 +29,15 @@ static int is_check_of(guarded text, const nissy_text_line *lines, const nissy_a
     guarded scramble = moves_of(text, lines, count, NISSY_OF_SCRAMBLE, places[0]),
             solution = moves_of(text, lines, count, NISSY_OF_SOLUTION, places[1]);
     const nissy_check_answer wanted = nissy_check(scramble.bytes, scramble.size, solution.bytes, solution.size);
-    uint64_t at = 0;
-    while (at < count && lines[at].doubt == NISSY_NO_DOUBT) at++;
     uint8_t checked = 0;
     for (uint64_t of = 0; of < count; of++) checked = checked || (lines[of].kind == NISSY_STEP_LINE && lines[of].solution);
+    const int is_unsolved = wanted.status == NISSY_DONE && !(checked && wanted.solved);
     const int is_right = it->check.status == wanted.status && it->check.fault == wanted.fault && it->check.line == wanted.line &&
                          it->check.solved == wanted.solved && it->check.column == wanted.column && it->check.moves == wanted.moves &&
                          it->check.clean_moves == wanted.clean_moves && it->check.forms == wanted.forms && it->checked == checked &&
                          it->fault_at == (wanted.status == NISSY_DONE ? NISSY_NO_PLACE : places[wanted.line - 1][wanted.column - 1]) &&
-                         it->doubted == (it->doubt != NISSY_NO_DOUBT && wanted.status == NISSY_DONE && !(checked && wanted.solved)) &&
-                         (at < count                    ? it->doubt == lines[at].doubt && it->doubt_at == lines[at].doubt_at
-                          : it->doubt == NISSY_NO_DOUBT ? it->doubt_at == NISSY_NO_PLACE
-                                                        : it->doubt == NISSY_A_PART && it->doubted);
+                         it->doubted == (it->doubt != NISSY_NO_DOUBT && is_unsolved) &&
+                         is_doubt_of(lines, count, scramble, places[0], is_unsolved, it);
     let_go(scramble), let_go(solution);
     return is_right;
 }
@@ -93,6 +102,7 @@ static void checks_of_attempts(void) {
     has_check(SHEET, NULL, NONE, 0, (uint64_t[]){NO, 0, 0, 0, 3, NO, NO, 0, 0, 1, NISSY_DONE, 0, 1});
     has_check(SHEET, NULL, NONE, 1, (uint64_t[]){NO, 0, 0, 3, 5, NO, 51, NISSY_SIDE, 1, 1, NISSY_DONE, 0, 0});
     has_check(STEPS, NULL, NONE, 0, (uint64_t[]){NO, 0, 0, 0, 3, NO, 9, NISSY_A_PART, 1, 1, NISSY_DONE, 0, 0});
+    has_check("1. R U F F' U' R'", NULL, NONE, 0, (uint64_t[]){NO, 0, 0, 0, 1, NO, 3, NISSY_ANOTHER_SCRAMBLE, 1, 0, NISSY_DONE, 0, 1});
     has_check("1. R Q\n2. R U", NULL, NONE, 0, (uint64_t[]){NO, 0, 0, 0, 1, 5, NO, 0, 0, 0, NISSY_FAULT, 1, 0});
     nissy_text_line lines[3];
     const nissy_text_answer sheet = nissy_text_lines((const uint8_t *)STEPS, sizeof STEPS - 1, lines, 3);

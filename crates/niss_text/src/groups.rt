@@ -3,7 +3,6 @@ ghost use Rattle.std.specs.Prelude.{◌≤◌, ◌<◌};
 
 use crate::body::is_whole_move_before;
 use crate::line::{Line, Numbers, first_line, whole_length};
-use crate::sights::is_capital;
 use crate::sign::trimmed;
 
 /// The group of the last line, and what is seen of it.
@@ -56,19 +55,8 @@ impl Group {
     }
 }
 
-/// How many turns a solution has at least that is written out.
-const FEWEST_TURNS: usize = 12;
-
-/// How many letters of turns a text has.
-fn turns_in(text: &[u8]) -> usize {
-    let mut count: usize = 0;
-    for byte in text {
-        if is_capital(*byte) {
-            count = count.saturating_add(1);
-        }
-    }
-    count
-}
+/// How many bytes a solution has at least that is written out: those of twelve moves with blanks between.
+const FEWEST_BYTES: usize = 24;
 
 /// Whether moves begin with others, however blanks part them, and then go on.
 fn begin_with(moves: &[u8], others: &[u8]) -> bool {
@@ -87,7 +75,7 @@ fn begin_with(moves: &[u8], others: &[u8]) -> bool {
 }
 
 /// Whether the last moves of some lines after a scramble are the whole solution: they begin with those of the first line,
-/// and are many.
+/// and are long.
 fn ends_written_out(text: &[u8], numbers: Numbers) -> bool {
     let mut first: &[u8] = &[];
     let mut last: &[u8] = &[];
@@ -100,7 +88,7 @@ fn ends_written_out(text: &[u8], numbers: Numbers) -> bool {
         }
         rest = &rest[whole_length(rest)..];
     }
-    turns_in(last) >= FEWEST_TURNS && begin_with(last, first)
+    last.len() >= FEWEST_BYTES && begin_with(last, first)
 }
 
 /// What tells which group is the solution.

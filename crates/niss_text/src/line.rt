@@ -7,10 +7,10 @@ use crate::body::{has_frame, is_whole_scramble};
 use crate::forms::{
     begins_comment, head_length, label_of, line_length, listed_length, number_length,
 };
-use crate::sign::{Class, behind, first_sign, is_digit_byte, length_of, trimmed};
+use crate::sign::{Class, behind, is_digit_byte, trimmed};
 use crate::span::span_of;
 use crate::word::are_plain_moves;
-use crate::words::{Wanted, is_word, says};
+use crate::words::{Wanted, says};
 
 /// Which numbers may stand before a scramble.
 #[derive(Clone, Copy, PartialEq, Eq)]
@@ -145,24 +145,6 @@ fn margin(line: &[u8]) -> usize
     line.len() - rest.len()
 }
 
-/// Whether one of the words of a label is this one.
-fn has_word(words: &[u8], word: &[u8]) -> bool {
-    let mut rest = trimmed(words);
-    while !rest.is_empty() {
-        let length = length_of(rest, Class::Word);
-        if length > 0 && is_word(&rest[..length], word) {
-            return true;
-        }
-        let sign = if length == 0 {
-            first_sign(rest).length
-        } else {
-            length
-        };
-        rest = trimmed(&rest[sign..]);
-    }
-    false
-}
-
 /// Whether what tells a scramble from others may begin with a byte.
 fn begins_head(byte: u8) -> bool {
     matches!(byte, b'#' | b'(' | b's' | b'S' | b'a' | b'A' | b'e' | b'E') || is_digit_byte(byte)
@@ -278,7 +260,7 @@ fn line_behind(line: &[u8], head_kind: Head, head: usize) -> Line
         is_moves: parts.is_moves,
         beside: seen_beside(label, has_words),
         is_solution,
-        is_final: is_solution && has_word(label, b"final"),
+        is_final: is_solution && says(label, Wanted::Final),
         is_step: says(label, Wanted::Step) || says(&line[parts.comment..], Wanted::Step),
         is_whole: is_whole_scramble(body),
     }
@@ -380,7 +362,7 @@ pub fn may_begin(text: &[u8], numbers: Numbers) -> bool {
 pub fn names_solutions(text: &[u8], line: &Line) -> bool
     requires { line.now.length ≤ length text.now }
 {
-    !line.is_moves && has_word(&text[..line.length], b"solutions")
+    !line.is_moves && says(&text[..line.length], Wanted::Solutions)
 }
 
 /// The first line of a text.

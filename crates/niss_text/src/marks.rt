@@ -32,6 +32,7 @@ pub fn times_said(comment: &[u8]) -> Option<usize>
 }
 
 /// Where the last word of some moves begins, as blanks part them.
+#[inline(never)]
 fn last_word(moves: &[u8]) -> usize
     ensures { result ≤ length moves.now }
 {

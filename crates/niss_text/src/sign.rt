@@ -173,7 +173,7 @@ pub fn first_kind(text: &[u8]) -> Kind {
     if text.is_empty() {
         Kind::LineEnd
     } else {
-        first_sign(text).kind
+        one_sign(text).kind
     }
 }
 

@@ -72,6 +72,10 @@ pub enum Wanted {
     Step,
     /// What solvers call a solution.
     Solution,
+    /// Several of them.
+    Solutions,
+    /// The one that counts.
+    Final,
     /// The inverse, for the side of the moves.
     Inverse,
     /// What makes the inverse something else than the side of these moves.
@@ -84,6 +88,8 @@ impl Wanted {
         match self {
             Wanted::Step => is_step_name(word),
             Wanted::Solution => fits_one_of(word, SOLUTIONS, true),
+            Wanted::Solutions => is_word(word, b"solutions"),
+            Wanted::Final => is_word(word, b"final"),
             Wanted::Inverse => fits_one_of(word, b"inverse,inv", true),
             Wanted::Switch => fits_one_of(word, b"normal,niss,switch,premove,premoves", true),
         }
