@@ -209,7 +209,7 @@ def keys_rest(tally: Tally, browser: Browser) -> None:
         tally,
         "while the next cells are looked for",
         ("script", take, LAST_STEP_AWAY, {"hash": "#scramble=R_U_F"}),
-        ("script", press, {"hash": "?"}),
+        ("script", press, {"hash": "#scramble=R_U_F&list=eofb.normal.0"}),
     )
     browser.resize(640, 740)
     browser.walk(
