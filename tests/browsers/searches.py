@@ -20,7 +20,8 @@ BLUR = "document.activeElement?.blur()"
 
 def cases(tally: Tally, browser: Browser) -> None:
     """Bad edges and cases of a scramble, as solvers counted them, in the table, the list and the best; and filters by case."""
-    heads = "return all('#steps-body th').map((each) => each.textContent)"
+    # without what is said of both sides
+    heads = "return all('#steps-body th').map((each) => [...each.children].slice(0, 2).map((it) => it.textContent).join(''))"
     browser.go(address_of(program_answers(browser.program, ["scramble", "20261125", "1", "25", "1"], [])[0]))
     tally.equal("bad edges", browser.script(heads), ["EO F/B 4 bad edges", "EO R/L 6 bad edges", "EO U/D 6 bad edges"])
     browser.act('[data-cell="eofb.normal"]')

@@ -55,7 +55,7 @@ const leastOf = (offers: Offer[]) =>
 function overBoth({ step, both }: Offer, least: number | null) {
   if (both === null) return [];
   const title = `${titleOf(step)}, both sides: ${counted(both, "move")}`;
-  return [element("small", { title, class: both === least ? "chip least" : "" }, `${both} over both`)];
+  return [" ", element("small", { title, class: both === least ? "chip least" : "" }, `${both} over both`)];
 }
 
 export class StepTable {
