@@ -176,6 +176,8 @@ static void say_doubt(text of, lines those) {
     if (it.check.status == NISSY_DONE && !is_solved) {
         if (at < those.count)
             say_text(DOUBTS[those.first[at].doubt]), say_place(of, those.first[at].doubt_at);
+        else if (it.scramble.length > 0 && nissy_check(it.scramble.bytes, it.scramble.length, it.scramble.bytes, 0).solved)
+            say_text(DOUBTS[NISSY_ANOTHER_SCRAMBLE]), say_place(of, it.scramble.places[0]);
         else
             say_part(of, those, &it.scramble);
     }
