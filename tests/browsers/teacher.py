@@ -192,10 +192,10 @@ def shows_a_reduction(tally: Tally, browser: Browser) -> None:
     browser.until("return part('played').textContent.startsWith('5 of 10')")
     bad = Position(EXAMPLE, "", " ".join(moves[1:6])).bad_edges("ud")
     tally.equal("before its last move", browser.script(marked), [f"EO U/D: {bad} bad", True])
-    bad = {"played": f"6 of 10: ({moves[6]})", "marked-normal": "\u00b7 EO U/D: done", "focus": "cube-large"}
+    done = {"played": f"6 of 10: ({moves[6]})", "marked-normal": "\u00b7 EO U/D: done", "focus": "cube-large"}
     browser.script("part('cube-large').focus()")
     browser.walk(
-        tally, "an arrow key leads on", ("press", Keys.ARROW_RIGHT, {}), ("comes", "played", bad["played"], bad)
+        tally, "an arrow key leads on", ("press", Keys.ARROW_RIGHT, {}), ("comes", "played", done["played"], done)
     )
     browser.walk(tally, "and back", ("press", Keys.ARROW_LEFT, {}), ("comes", "played", f"5 of 10: ({moves[5]})", {}))
     browser.script("part('piece').focus()")
