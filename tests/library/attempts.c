@@ -10,8 +10,7 @@ static guarded moves_of(guarded text, const nissy_text_line *lines, uint64_t cou
     return made;
 }
 
-/* Whether the doubt of an attempt is the first one of its lines; else, if it isn't solved, that its scramble by itself is, or else, if any, a part.
- */
+/* Whether the doubt of an attempt is that of its lines; else, if it isn't solved, that its scramble by itself is, or a part of its steps. */
 static int is_doubt_of(const nissy_text_line *lines, uint64_t count, guarded scramble, const uint64_t *places, int is_unsolved,
                        const nissy_attempt_check *it) {
     uint64_t at = 0;
