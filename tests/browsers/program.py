@@ -1,5 +1,6 @@
 """What the built program answers."""
 import subprocess
+from functools import cache
 
 
 def program_answers(program: str, words: list[str], lines: list[str]) -> list[str]:
@@ -38,7 +39,8 @@ def beginnings(count: int, kept: str = "") -> list[str]:
     return [" ".join(line) for line in lines]
 
 
-def fewer_over_both(program: str, step: str, lines: dict[str, str], least: int) -> int | None:
+@cache
+def fewer_over_both(program: str, step: str, sides: tuple[str, ...], least: int) -> int | None:
     """
     The least length of a step over both sides, None if it isn't less than the least on each alone: begun on the side that has no more of it, gone on with
     on the other.
@@ -46,7 +48,7 @@ def fewer_over_both(program: str, step: str, lines: dict[str, str], least: int) 
     fewer, count = None, 1
     while 2 * count < least:
         begun = program_answers(program, ["invert"], beginnings(count, step[7:].upper()))
-        after = [f"{each} {line}" for line in lines.values() for each in begun]
+        after = [f"{each} {line}" for line in sides for each in begun]
         for each in program_answers(program, ["count", step, str(least - 1 - count)], after):
             if not each.startswith("length none") and int(each.split()[1]) + count < least:
                 fewer = least = int(each.split()[1]) + count

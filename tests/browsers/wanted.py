@@ -184,7 +184,9 @@ class Position:
         """The least lengths over both sides, by the built program, of the steps that may follow and take less so than on each side alone."""
         steps = [step for group in self.open_steps() for step in group]
         alone = {step: min(self.count(step, side)[0] for side in SIDES) for step in steps}
-        found = {step: fewer_over_both(program, step, self.lines, least) for step, least in alone.items()}
+        found = {
+            step: fewer_over_both(program, step, tuple(self.lines.values()), least) for step, least in alone.items()
+        }
         return {step: length for step, length in found.items() if length is not None}
 
     def cells(self, program: str) -> list[str]:
