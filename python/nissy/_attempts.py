@@ -139,7 +139,7 @@ class Reader:
         are_steps = self._kinds.translate(_IS_OF[STEP])
         self._steps_at = [*compress(range(self.count), are_steps)]
         self._told_steps = bytes(compress(self._are_solution, are_steps))
-        self._groups = [*compress(self._numbers[_GROUP::_NUMBERS], are_steps)]
+        self._groups = [*compress(self._numbers[_GROUP::_NUMBERS].tolist(), are_steps)]
 
     def _words(self, line: int, begin: int, end: int) -> str:
         """Returns what stands in a line from one of its places to another."""
@@ -225,11 +225,11 @@ class Reader:
 
     def attempt(self, begin: int, end: int, doubt: Optional[AttemptDoubt]) -> Attempt:
         """Returns the attempt that the lines from one to another are, which is in this doubt."""
-        kinds, headed = self._kinds[begin:end], self._are_headed[begin:end].find(1)
-        scramble, before = self._of_scramble.of(begin, end), kinds.count(_BEFORE)
+        headed, before = self._are_headed.find(1, begin, end), self._kinds.count(_BEFORE, begin, end)
+        scramble = self._of_scramble.of(begin, end)
         # the first head
-        name = self._words(begin + headed, _BEGIN, _HEAD_END) if headed >= 0 else ""
-        if STEP not in kinds:
+        name = self._words(headed, _BEGIN, _HEAD_END) if headed >= 0 else ""
+        if self._kinds.find(STEP, begin, end) < 0:
             return value_of(Attempt, (name, scramble, (), None, (), before, doubt))
         steps, solution, candidates = self._after_scramble(begin, end)
         return value_of(Attempt, (name, scramble, steps, solution, candidates, before, doubt))

@@ -31,6 +31,11 @@ fn behind_primed(text: &[u8], letter: u8) -> Option<&[u8]>
     behind_prime(&text[1..])
 }
 
+/// Whether a text begins with the first move of a whole scramble.
+pub fn begins_frame(text: &[u8]) -> bool {
+    behind_primed(text, b'R').is_some()
+}
+
 /// What is after R' U' F in front of a text, if they are there.
 #[inline(never)]
 fn behind_frame(text: &[u8]) -> Option<&[u8]>

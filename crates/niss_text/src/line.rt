@@ -145,6 +145,11 @@ fn margin(line: &[u8]) -> usize
     line.len() - rest.len()
 }
 
+/// Whether a line has nothing but blanks and signs that quote it.
+pub fn is_blank(line: &[u8]) -> bool {
+    margin(line) == line.len()
+}
+
 /// Whether what tells a scramble from others may begin with a byte.
 fn begins_head(byte: u8) -> bool {
     matches!(byte, b'#' | b'(' | b's' | b'S' | b'a' | b'A' | b'e' | b'E') || is_digit_byte(byte)

@@ -52,10 +52,14 @@ fn last_word(moves: &[u8]) -> usize
 pub fn letter_of_words(moves: &[u8], words: &[u8]) -> Option<usize>
     ensures { IfSome result (λ at. at ≤ length moves.now) }
 {
+    // few lines have such words
+    if !names_place(words) {
+        return None;
+    }
     let begin = last_word(moves);
     let word = &moves[begin..];
     let is_letter_alone = !word.is_empty() && is_letter(word[0]) && trimmed(&word[1..]).is_empty();
-    if is_letter_alone && names_place(words) {
+    if is_letter_alone {
         return Some(begin);
     }
     None

@@ -1,12 +1,15 @@
 //! Where the attempts of a stretch begin and end, and their scrambles.
 ghost use Rattle.std.specs.Prelude.{◌≡◌, ◌≤◌, ◌<◌, length};
 
-use crate::body::{begins_scramble, is_framed};
+use crate::body::{begins_frame, begins_scramble, is_framed};
+use crate::forms::line_length;
 use crate::line::{
-    Beside, Head, Line, Numbers, cut_line, first_line, may_begin, names_solutions, whole_length,
+    Beside, Head, Line, Numbers, cut_line, first_line, is_blank, may_begin, names_solutions,
+    whole_length,
 };
 use crate::parts::number_in;
 use crate::stretches::is_open;
+use crate::words::{Wanted, says};
 
 /// Whether a line is the head of a scramble.
 pub fn is_head(line: &Line) -> bool {
@@ -28,6 +31,9 @@ fn whole_scramble_length(text: &[u8], line: &Line, numbers: Numbers) -> usize
     let mut end = whole_length(text);
     if line.is_whole {
         return end;
+    }
+    if !begins_frame(&text[line.moves.min(end)..end]) {
+        return 0;
     }
     for _ in 0..MOST_FURTHER_LINES {
         if end == text.len() {
@@ -78,17 +84,13 @@ fn next_at(text: &[u8], numbers: Numbers, is_numbered: bool) -> Next {
     }
 }
 
-/// The first line of a text that isn't blank, with the text from there on; a blank one if there is no other.
-fn first_filled_line(text: &[u8], numbers: Numbers) -> (Line, &[u8])
-    ensures line { result.0.length ≤ length result.1.now }
-{
+/// What a text has from its first line on that isn't blank.
+fn from_filled_line(text: &[u8]) -> &[u8] {
     let mut rest = text;
-    let mut line = first_line(rest, numbers);
-    while !rest.is_empty() && line.is_blank {
+    while !rest.is_empty() && is_blank(&rest[..line_length(rest)]) {
         rest = &rest[whole_length(rest)..];
-        line = first_line(rest, numbers);
     }
-    (line, rest)
+    rest
 }
 
 /// The number of the head of a line, which is the first one of a text.
@@ -100,24 +102,30 @@ fn number_of(text: &[u8], line: &Line) -> Option<usize>
 
 /// Whether a text begins with a list of solutions: with a line that names them, and one with moves and the number 1.
 fn lists_solutions(text: &[u8], numbers: Numbers) -> bool {
-    let (title, titled) = first_filled_line(text, Numbers::OfLines);
-    if !names_solutions(titled, &title) {
+    let titled = from_filled_line(text);
+    // few lines say so: the others aren't read
+    if !says(&titled[..line_length(titled)], Wanted::Solutions) {
         return false;
     }
-    let (line, list) = first_filled_line(&titled[title.length..], numbers);
+    if first_line(titled, Numbers::OfLines).is_moves {
+        return false;
+    }
+    let list = from_filled_line(&titled[line_length(titled)..]);
+    let line = first_line(list, numbers);
     line.head_kind == Head::Number && line.is_moves && number_of(list, &line) == Some(1)
 }
 
 /// What is seen of an attempt before its lines are told: how many bytes it has; where the first line of moves begins,
 /// and the end if there is none; how many bytes the whole scramble has that begins there, 0 if none does; whether prose
-/// before it is told from it, since a head stands in it or before it, or since it is whole; whether the solutions of
-/// several scrambles follow it; and which numbers begin the next attempt.
+/// before it is told from it, since a head stands in it or before it, or since it is whole; whether the line has signs
+/// before its moves; whether the solutions of several scrambles follow it; and which numbers begin the next attempt.
 #[derive(Clone, Copy)]
 pub struct Outline {
     pub length: usize,
     pub first: usize,
     whole: usize,
     pub has_name: bool,
+    has_sign: bool,
     pub has_several: bool,
     is_found: bool,
     numbers: Numbers,
@@ -134,6 +142,7 @@ impl Outline {
             whole: 0,
             is_found: false,
             has_name: false,
+            has_sign: false,
             has_several: false,
             numbers,
         }
@@ -151,6 +160,7 @@ impl Outline {
             seen.whole = whole_scramble_length(text, line, self.numbers);
             seen.has_name = self.has_name || is_head(line) || seen.whole > 0;
             seen.has_several = !seen.has_name && (self.has_several || names_solutions(text, line));
+            seen.has_sign = line.beside == Beside::Signs;
             seen.is_found = line.is_moves;
             seen.first = at;
         }
@@ -196,7 +206,7 @@ impl Outline {
         if self.whole > 0 {
             return self.first + self.whole.min(scramble.len());
         }
-        self.first + scramble_length(scramble, numbers)
+        self.first + scramble_length(scramble, numbers, self.has_sign)
     }
 }
 
@@ -232,14 +242,13 @@ pub fn outline_of(text: &[u8], numbers: Numbers) -> Outline
 }
 
 /// How many bytes the lines of a scramble have that begins a text and isn't whole: all up to a blank line, or to the label
-/// of the solution, or the first alone if words of a later one say what its moves are, or a sign that the first hasn't.
-fn scramble_length(text: &[u8], numbers: Numbers) -> usize
+/// of the solution, or the first alone if words of a later one say what its moves are, or a sign, unless the first has one.
+fn scramble_length(text: &[u8], numbers: Numbers, has_sign: bool) -> usize
     ensures { result ≤ length text.now }
 {
     if text.is_empty() {
         return 0;
     }
-    let has_sign = first_line(text, numbers).beside == Beside::Signs;
     let first = whole_length(text);
     let mut rest = &text[first..];
     while !rest.is_empty() {

@@ -120,7 +120,8 @@ pub fn says(text: &[u8], wanted: Wanted) -> bool {
     let mut rest = text;
     while !rest.is_empty() {
         let letters = length_of(rest, Class::Letters);
-        if wanted.has(&rest[..letters]) {
+        // none of these words is a letter by itself, as most moves are
+        if letters > 1 && wanted.has(&rest[..letters]) {
             return true;
         }
         rest = &rest[letters..];
@@ -148,14 +149,15 @@ pub enum Topic {
 pub fn first_topic(text: &[u8], before: &[u8]) -> Option<Topic> {
     let is_beyond = !text.is_empty() && text[0] >= 0x80;
     let sides = if is_beyond { SIDES_BEYOND } else { SIDES };
+    let word = &text[..length_of(text, Class::Letters)];
     if fits_one_of(text, sides, false)
         || is_letter_of_inverse(text, before)
-        || is_short_side(text)
+        || is_short_side(word)
     {
         Some(Topic::Side)
     } else if fits_one_of(text, REPETITIONS, false) {
         Some(Topic::Repetition)
-    } else if begins_insertion(text, is_beyond) {
+    } else if is_word(word, b"ins") || begins_insertion(text, is_beyond) {
         Some(Topic::Insertion)
     } else {
         None
@@ -196,10 +198,9 @@ fn is_letter_of_inverse(text: &[u8], before: &[u8]) -> bool {
     is_last && (text[0] == b'I' || before.is_empty() || before[before.len() - 1] < 0x80)
 }
 
-/// Whether a text begins with a short word for moves before others, or for another side.
-fn is_short_side(text: &[u8]) -> bool {
-    let letters = length_of(text, Class::Letters);
-    fits_one_of(&text[..letters], b"pre,rev,sw", true)
+/// Whether a word is a short one for moves before others, or for another side.
+fn is_short_side(word: &[u8]) -> bool {
+    fits_one_of(word, b"pre,rev,sw", true)
 }
 
 /// Whether a text begins with the word for a side, after what ends with "normal" and a sign: that is the side on which
@@ -209,15 +210,14 @@ pub fn is_normal_side(text: &[u8], before: &[u8]) -> bool {
     word_length(text, b"side") > 0 && word_length(normal, b"normal") > 0
 }
 
-/// Whether a text begins with letters that say so, or with a word of three.
+/// Whether a text begins with letters that say so.
 fn begins_insertion(text: &[u8], is_beyond: bool) -> bool {
     let words = if is_beyond {
         INSERTIONS_BEYOND
     } else {
         INSERTIONS
     };
-    let letters = length_of(text, Class::Letters);
-    is_word(&text[..letters], b"ins") || fits_one_of(text, words, false)
+    fits_one_of(text, words, false)
 }
 
 /// How many bytes the word has that stands before each of several scrambles, if a text begins with one; else 0.
