@@ -1,7 +1,7 @@
 //! Words in a text, in capitals or small letters.
 ghost use Rattle.std.specs.Prelude.{◌≤◌, length};
 
-use crate::sign::{Class, Kind, first_kind, length_of, trimmed};
+use crate::sign::{Class, Kind, first_kind, is_letter_byte, length_of, trimmed};
 
 /// A letter of ASCII as a small one.
 fn small(byte: u8) -> u8 {
@@ -114,9 +114,25 @@ pub fn names_place(text: &[u8]) -> bool {
     )
 }
 
+/// Whether two letters of a text stand together.
+fn has_word(text: &[u8]) -> bool {
+    let mut is_after_letter = false;
+    for byte in text {
+        let is_letter = is_letter_byte(*byte);
+        if is_letter && is_after_letter {
+            return true;
+        }
+        is_after_letter = is_letter;
+    }
+    false
+}
+
 /// Whether a text has a word of such.
 #[inline(never)]
 pub fn says(text: &[u8], wanted: Wanted) -> bool {
+    if !has_word(text) {
+        return false;
+    }
     let mut rest = text;
     while !rest.is_empty() {
         let letters = length_of(rest, Class::Letters);

@@ -126,13 +126,10 @@ export class AttemptReader {
   #candidate(group: number[]): AttemptCandidate {
     const lines = this.#having(group, LINE_READ.kind, LINE_KIND.step);
     const steps = this.#each(lines);
-    const note = this.#having(group, LINE_READ.kind, LINE_KIND.note).map((nth) => this.#note(nth)).join(" ");
+    const notes = this.#having(group, LINE_READ.kind, LINE_KIND.note).map((nth) => this.#note(nth)).join(" ");
     const [labelled] = this.#having(group, LINE_READ.labelled, 1);
-    return {
-      steps,
-      solution: this.#inOne(steps, lines),
-      note: note || (labelled === undefined ? "" : this.#label(labelled)),
-    };
+    const note = notes || (labelled === undefined ? "" : this.#label(labelled));
+    return { steps, solution: this.#inOne(steps, lines), note };
   }
 
   /** @param byte of the text
@@ -187,9 +184,11 @@ export class AttemptReader {
     attempt.steps = this.#each(under.length > 0 ? under : told);
     const alike = under.length === 0 || under[0] === told[0] ? attempt.steps : [];
     if (told.length > 0) attempt.solution = this.#inOne(alike, told);
-    const groups = new Map<number, number[]>(every.map((nth) => [this.#told(nth, LINE_READ.group), []]));
+    if (under.length === every.length) return;
+    // the first group stands before the others
+    const others = every.slice(under.length).map((nth) => this.#told(nth, LINE_READ.group));
+    const groups = new Map<number, number[]>(others.map((group) => [group, []]));
     for (const nth of after) groups.get(this.#told(nth, LINE_READ.group))?.push(nth);
-    groups.delete(0);
     attempt.candidates = Array.from(groups.values(), (group) => this.#candidate(group));
   }
 }
