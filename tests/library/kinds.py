@@ -191,7 +191,7 @@ def times(tally: Tally) -> None:
         room = ctypes.create_string_buffer(88 * (data.count(b"\n") + data.count(b"\r") + 1))
         begun = time.process_time()
         answer = _library.nissy_text_lines(data, len(data), ctypes.addressof(room), len(room) // 88)
-        tally.holds(f"a megabyte of {piece!r} soon", answer.status == 0 and time.process_time() - begun < 2)
+        tally.holds(f"a megabyte of {piece!r} soon", answer.status == 0 and time.process_time() - begun < 1)
     begun = time.process_time()
     for text in ("R U F\n\nR'" + "()" * 20_000, "1. R Q\n" * 8000):
         # each is checked when it is asked for
