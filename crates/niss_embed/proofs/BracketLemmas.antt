@@ -22,20 +22,20 @@ data Depth : Type 0 where
   In : Depth
   Wrong : Depth
 
-after_opening : Depth → Depth
+abbrev after_opening : Depth → Depth
 after_opening Out = In
 after_opening In = Wrong
 after_opening Wrong = Wrong
 
-after_closing : Depth → Depth
+abbrev after_closing : Depth → Depth
 after_closing Out = Wrong
 after_closing In = Out
 after_closing Wrong = Wrong
 
-after_byte : Depth → ℕ → Depth
+abbrev after_byte : Depth → ℕ → Depth
 after_byte d byte = if byte == 40 then after_opening d else (if byte == 41 then after_closing d else d)
 
-after_bytes : Depth → List ℕ → Depth
+abbrev after_bytes : Depth → List ℕ → Depth
 after_bytes d [] = d
 after_bytes d (byte ∷ bytes) = after_bytes (after_byte d byte) bytes
 
@@ -57,7 +57,7 @@ wrong_stays [] = refl
 wrong_stays (byte ∷ bytes) = ap (λ d. after_bytes d bytes) (wrong_byte byte) ∙ wrong_stays bytes
 
 -- Pieces have no brackets.
-is_none : ℕ → Bool
+abbrev is_none : ℕ → Bool
 is_none byte = not (byte == 40) && not (byte == 41)
 
 base_has_none : (b : Base) → list_all is_none (base_bytes b) ≡ true

@@ -1,9 +1,10 @@
 -- Sets of steps by their numbers, the lines in which they stand in brackets, and the first set that solves.
-use Rattle.std.proofs.Common.{◌≡◌, ◌∙◌, ℕ, zero, suc, ◌+◌, ◌-◌, ◌^◌, ◌<◌, ◌≤◌, ◌⊎◌, ◌==◌, Bool, true, false, Some, None, Option, List, [], ◌∷◌, ◌++◌, length, get_or, map, refl, sym, ap, subst, arith, inl, inr, append-nil}
+use Rattle.std.proofs.Common.{◌≡◌, ◌∙◌, ℕ, zero, suc, ◌+◌, ◌-◌, ◌*◌, ◌^◌, ◌<◌, ◌≤◌, ◌⊎◌, ◌==◌, Bool, true, false, Some, None, Option, List, [], ◌∷◌, ◌++◌, length, get_or, map, refl, sym, ap, subst, arith, inl, inr, append-nil}
 use Rattle.std.specs.Prelude.{flat_map, slice_index, nat_lt, IfSome}
 use Rattle.std.specs.Int.{bit_at}
-use Rattle.std.specs.Int.Count.{count_trailing_zeros}
+unfoldable use Rattle.std.specs.Int.Count.{count_trailing_zeros}
 use Rattle.std.specs.List.{range_with_len}
+use Rattle.std.proofs.Math.Nat.{pow-succ'}
 use Rattle.std.proofs.Math.Pow.{pow_mono}
 use Rattle.std.proofs.lemmas.Bool.{cases_lt, lt-ltb}
 use Rattle.std.proofs.lemmas.Grind.{flat_map-append}
@@ -13,7 +14,7 @@ use Rattle.niss_embed.specs.declared.corners.Corners.{Corners}
 use Rattle.niss_embed.specs.declared.parts.Part.{Part}
 use Rattle.niss_embed.specs.declared.step_sets.StepSet.{StepSet}
 use Rattle.niss_embed.specs.Corners.{IsTail, AreTails, line_from}
-use Rattle.niss_embed.specs.Parts.{has, first_in, last_in, step_with, steps_line, in_brackets_if, AreSome, IsLeast}
+use Rattle.niss_embed.specs.Parts.{has, first_in, last_in, step_with, line_with, steps_line, in_brackets_if, AreSome, IsLeast}
 
 abbrev pub of : ℕ → StepSet
 of n = record { number = n }
@@ -26,6 +27,7 @@ ends n =
 
 are_ends : (n : ℕ) → 0 < n → n < 256 → (count_trailing_zeros 64 n ≡ first_in (of n)) × (2 ^ first_in (of n) < n + 1) × (2 ^ last_in (of n) < n + 1)
     × (n < 2 ^ (last_in (of n) + 1)) × (last_in (of n) < 8)
+unfolding count_trailing_zeros
 are_ends n some few =
     let all = holds (Numbers 256 ends) refl n few (lt-ltb 0 n some) in
     (all.0, all.1.0, all.1.1.0, all.1.1.1.0, all.1.1.1.1)
@@ -45,11 +47,13 @@ first_among n steps some few within =
     let low = (are_ends n some few).1 in
     power_below (first_in (of n)) steps n (omega (arith, low)) within
 
-pub last_is : (n r : ℕ) → 0 < n → n < 256 → 2 ^ r ≤ n → n < 2 ^ (r + 1) → r ≡ last_in (of n)
+pub last_is : (n r : ℕ) → 0 < n → n < 256 → 2 ^ r ≤ n → n < 2 * 2 ^ r → r ≡ last_in (of n)
 last_is n r some few low high =
     let is = are_ends n some few in
+    let next : r + 1 ≡ suc r = omega arith in
+    let double : 2 ^ (r + 1) ≡ 2 * 2 ^ r = ap (λ k. 2 ^ k) next ∙ pow-succ' 2 r in
     let one : r < last_in (of n) + 1 = power_below r (last_in (of n) + 1) n low is.3 in
-    let other : last_in (of n) < r + 1 = power_below (last_in (of n)) (r + 1) n (omega (arith, is.2)) high in
+    let other : last_in (of n) < r + 1 = power_below (last_in (of n)) (r + 1) n (omega (arith, is.2)) (omega (arith, double, high)) in
     omega (arith, one, other)
 
 pub last_few : (n : ℕ) → 0 < n → n < 256 → last_in (of n) < 8
@@ -84,9 +88,17 @@ pub line_more : (text bounds : List ℕ) (chosen : StepSet) (n : ℕ) →
     flat_map (step_with text bounds chosen) (range_with_len 0 n) ++ step_with text bounds chosen n ≡ flat_map (step_with text bounds chosen) (range_with_len 0 (n + 1))
 line_more text bounds chosen n =
     let f : ℕ → List ℕ = step_with text bounds chosen in
-    let all : flat_map f (range_with_len 0 (n + 1)) ≡ flat_map f (range_with_len 0 n) ++ flat_map f ((0 + n) ∷ []) =
-    ap (flat_map f) (range_push 0 n) ∙ flat_map-append f (range_with_len 0 n) ((0 + n) ∷ []) in
+    let from_none : 0 + n ≡ n = omega arith in
+    let all : flat_map f (range_with_len 0 (n + 1)) ≡ flat_map f (range_with_len 0 n) ++ flat_map f (n ∷ []) =
+    ap (flat_map f) (range_push 0 n ∙ ap (λ k. range_with_len 0 n ++ k ∷ []) from_none) ∙ flat_map-append f (range_with_len 0 n) (n ∷ []) in
     sym (all ∙ ap (λ v. flat_map f (range_with_len 0 n) ++ v) (append-nil (f n)))
+
+-- all steps from the first one on are the whole line
+pub whole_tail : (text bounds : List ℕ) (chosen : StepSet) (tails : List Corners) (none : Corners) → 0 < length bounds → AreTails text bounds chosen 0 tails →
+    IsTail (line_with text bounds chosen) (get_or tails 0 none).to
+whole_tail text bounds chosen tails none some are =
+    let all : length bounds - 1 - 0 ≡ length bounds - 1 = omega arith in
+    subst (λ (n : ℕ). IsTail (flat_map (step_with text bounds chosen) (range_with_len 0 n)) (get_or tails 0 none).to) all (are 0 none (omega arith) some)
 
 -- no set with a lower number solves
 abbrev pub NoneBelow : (StepSet → Bool) → ℕ → Type 0
@@ -109,7 +121,7 @@ least_is solving steps n some within is none = ((some, within), is, λ other amo
 pub least_none : (solving : StepSet → Bool) (steps n : ℕ) → 2 ^ steps ≤ n → NoneBelow solving n → IsLeast steps solving None
 least_none solving steps n all none set among = none set among.0 (omega (arith, among.1, all))
 
--- what is known of a value, if there is one
-pub if_some : {X : Type 0} (P Q : X → Type 0) (o : Option X) → ((x : X) → P x → Q x) → IfSome o P → IfSome o Q
-if_some P Q None f h = tt
-if_some P Q (Some x) f h = f x h
+-- what three facts of a value say, if there is one
+pub if_some : {X : Type 0} (P Q R S : X → Type 0) (o : Option X) → ((x : X) → P x → Q x → R x → S x) → IfSome o P → IfSome o Q → IfSome o R → IfSome o S
+if_some P Q R S None f p q r = tt
+if_some P Q R S (Some x) f p q r = f x p q r

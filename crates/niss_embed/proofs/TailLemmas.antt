@@ -110,31 +110,29 @@ tails_begin text bounds chosen few step none after within =
     subst (λ (c : Corners). IsTail (line_from text bounds chosen step) c.to) (sym at_home) tail
 
 -- one step more
-abbrev pub IsStepBefore : StepCorners → (later both : List ℕ) → (in_brackets : Bool) → Type 0
-IsStepBefore c later both in_brackets = (bytes more : List ℕ) → Reads bytes c → IsTail more later → IsTail (in_brackets_if in_brackets bytes ++ more) both
-
-pub tails_more : (text bounds : List ℕ) (chosen : StepSet) (steps : List StepCorners) (tails : List Corners) (step : ℕ) (own : StepCorners) (both : Corners) (later : Corners) →
-    AreSteps text bounds steps → step < length steps → length tails ≡ 9 → length steps ≤ 8 → own ≡ get_or steps step own → later ≡ get_or tails (step + 1) later →
-    IsStepBefore own later.to both.to (has chosen step) → AreTails text bounds chosen (step + 1) tails → AreTails text bounds chosen step (set tails step both)
-tails_more text bounds chosen steps tails step own both later are l nine eight own_is later_is before tails_are at none from within = by_place (cases_eq at step)
+pub tails_more : (text bounds : List ℕ) (chosen : StepSet) (steps same : List StepCorners) (tails : List Corners) (step : ℕ) (none : StepCorners) (nowhere both : Corners)
+    (in_brackets : Bool) → AreSteps text bounds steps → same ≡ steps → step < length steps → step < length tails → in_brackets ≡ has chosen step →
+    ((bytes more : List ℕ) → Reads bytes (get_or same step none) → IsTail more (get_or tails (step + 1) nowhere).to → IsTail (in_brackets_if in_brackets bytes ++ more) both.to) →
+    AreTails text bounds chosen (step + 1) tails → AreTails text bounds chosen step (set tails step both)
+tails_more text bounds chosen steps same tails step none nowhere both in_brackets are same_is l room so later tails_are at other from within = by_place (cases_eq at step)
   where
     first : IsTail (line_from text bounds chosen step) both.to
     first =
-        let after : IsTail (line_from text bounds chosen (step + 1)) later.to =
-        subst (λ (c : Corners). IsTail (line_from text bounds chosen (step + 1)) c.to) (sym later_is) (tails_are (step + 1) later (omega arith) (omega (arith, l, are.number))) in
-        let reads : Reads (steps_line text bounds step (step + 1)) own = subst (Reads (steps_line text bounds step (step + 1))) (sym own_is) (are.reads step own l) in
-        subst (λ (bytes : List ℕ). IsTail bytes both.to) (sym (line_next text bounds chosen step (omega (arith, l, are.number))))
-        (before (steps_line text bounds step (step + 1)) (line_from text bounds chosen (step + 1)) reads after)
+        let own : List ℕ = steps_line text bounds step (step + 1) in
+        let rest : List ℕ = line_from text bounds chosen (step + 1) in
+        let reads : Reads own (get_or same step none) = subst (λ (xs : List StepCorners). Reads own (get_or xs step none)) (sym same_is) (are.reads step none l) in
+        let tail : IsTail (in_brackets_if in_brackets own ++ rest) both.to = later own rest reads (tails_are (step + 1) nowhere (omega arith) (omega (arith, l, are.number))) in
+        subst (λ (bytes : List ℕ). IsTail bytes both.to)
+        (ap (λ b. in_brackets_if b own ++ rest) so ∙ sym (line_next text bounds chosen step (omega (arith, l, are.number)))) tail
 
-    by_place : (at ≡ step) ⊎ (at ≢ step) → IsTail (line_from text bounds chosen at) (get_or (set tails step both) at none).to
-    by_place (inl same) =
-        let is : get_or (set tails step both) at none ≡ both =
-        ap (λ k. get_or (set tails step both) k none) same ∙ get_or-set_same tails step both none (omega (arith, nine, eight, l)) in
+    by_place : (at ≡ step) ⊎ (at ≢ step) → IsTail (line_from text bounds chosen at) (get_or (set tails step both) at other).to
+    by_place (inl here) =
+        let is : get_or (set tails step both) at other ≡ both = ap (λ k. get_or (set tails step both) k other) here ∙ get_or-set_same tails step both other room in
         subst (λ (c : Corners). IsTail (line_from text bounds chosen at) c.to) (sym is)
-        (subst (λ (k : ℕ). IsTail (line_from text bounds chosen k) both.to) (sym same) first)
-    by_place (inr other) =
-        subst (λ (c : Corners). IsTail (line_from text bounds chosen at) c.to) (sym (get_or-set_other tails step at both none other))
-        (tails_are at none (grind (arith, other, from)) within)
+        (subst (λ (k : ℕ). IsTail (line_from text bounds chosen k) both.to) (sym here) first)
+    by_place (inr not_here) =
+        subst (λ (c : Corners). IsTail (line_from text bounds chosen at) c.to) (sym (get_or-set_other tails step at both other not_here))
+        (tails_are at other (grind (arith, not_here, from)) within)
 
 not_both : (b : Bool) → b ≡ true → b ≡ false → ⊥
 not_both true t f = cc f

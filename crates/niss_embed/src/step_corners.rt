@@ -1,7 +1,7 @@
 //! What steps of an attempt do to the corners of the cube.
 ghost use Rattle.std.specs.Prelude.{◌≡◌, ◌<◌, ◌≤◌, ℕ, false, List, [], ◌++◌, Ok, map, IfSome, IsTrue, length};
 ghost use Rattle.niss_moves.specs.Effects.{inverse};
-ghost use Rattle.niss_moves.specs.Line.{Moves};
+ghost use Rattle.niss_moves.specs.Line.{Moves, joined_moves};
 ghost use Rattle.niss_moves.specs.Reader.{read_line};
 ghost use Rattle.niss_moves.specs.Solving.{IsRotated};
 ghost use Rattle.niss_moves.specs.declared.token.Token.{Token};

@@ -4,7 +4,7 @@ use Rattle.niss_embed.proofs.step_corners.StepCorners.with_later.Goals as goal
 pub returns-then-not-in_brackets : goal.returns-then-not-in_brackets
 returns-then-not-in_brackets c bytes more one later =
     rw c.if-not-in_brackets.true
-    (outside_tail c.args.self.now c.args.later.now.to c.then.result.to c.then-2.result.to bytes more c.then.ensures c.then-2.ensures one later)
+    (outside_tail c.args.self.now c.args.later.now.to c.then.result.to c.then-then-not-in_brackets.result.to bytes more c.then.ensures c.then-then-not-in_brackets.ensures one later)
 
 pub returns-then-not-self : goal.returns-then-not-self
 returns-then-not-self c bytes more one later =
@@ -13,4 +13,4 @@ returns-then-not-self c bytes more one later =
 pub returns : goal.returns
 returns c bytes more one later =
     rw c.if-not-in_brackets.false
-    (inside_tail c.args.self.now c.args.later.now.to c.then.result.to bytes more c.then.ensures c.if-not-self.false one later)
+    (inside_tail c.args.self.now c.args.later.now.to c.then-2.result.to bytes more c.then-2.ensures c.if-not-self.false one later)
