@@ -266,7 +266,7 @@ static void part_is(const char *scramble, const char *steps, uint8_t how, uint8_
     let_go(one), let_go(other);
 }
 
-/* Steps of which a part solves: the first one in order, if several do. */
+/* Steps of which a part solves: the first one in order, if several do; or all, with some of them in brackets. */
 static void parts_of_steps(void) {
     part_is("R U F", "F'\nU' R'", NISSY_PART_ALONE, 0, 1);
     part_is("R U F", "L\nF' U' R'\nD", NISSY_PART_ALONE, 1, 1);
@@ -278,6 +278,16 @@ static void parts_of_steps(void) {
     part_is("R U F", "(F'\nU')\nR'", NISSY_PART_WITHOUT_BRACKETS, 0, 2);
     part_is("R U F", "(F' U' R')", NISSY_PART_WITHOUT_BRACKETS, 0, 0);
     part_is("R U F", "F' U'\nQ\nR'", NISSY_PART_LEFT_OUT, 1, 1);
+    /* the second and the fourth step on the inverse, and the others not */
+    part_is("R U F D", "D'\nR\nF'\nU", NISSY_PART_EACH_IN_BRACKETS, 1, 3);
+    part_is("R U F D", "R\nD'\nU\nF'", NISSY_PART_EACH_IN_BRACKETS, 0, 2);
+    /* what has brackets stays as it is, also if that is no line by itself */
+    part_is("R U F D L", "(R)\nL'\nU\nD'\nF", NISSY_PART_EACH_IN_BRACKETS, 2, 4);
+    part_is("R U F D L B", "(R\nU)\nB'\nF\nL'\nD", NISSY_PART_EACH_IN_BRACKETS, 3, 5);
+    /* the first, third and fourth step, and not the first, third and fifth, which would solve too */
+    part_is("U R U' U' U", "U\nU'\nR\nU'\nU", NISSY_PART_EACH_IN_BRACKETS, 0, 3);
+    part_is("R U F D", "D'\nR\nF'\nU R", NISSY_NO_PART, 0, 0);
+    part_is("R U F D", "D'\nQ\nF'\nU", NISSY_NO_PART, 0, 0);
     part_is("R U F", "F' U' R", NISSY_NO_PART, 0, 0);
     part_is("R U F", "", NISSY_NO_PART, 0, 0);
     part_is("R U Q", "F' U' R'", NISSY_NO_PART, 0, 0);
@@ -285,6 +295,7 @@ static void parts_of_steps(void) {
     /* eight steps are looked at, and no ninth */
     part_is("R", "D\nF\nU\nB\nL\nD\nF\nR'", NISSY_PART_LEFT_OUT, 0, 6);
     part_is("R", "L\nL\nL\nD\nL\nL\nL\nL\nR'", NISSY_NO_PART, 0, 0);
+    part_is("R U F D B2 L2 U2 R2", "R2\nR\nU2\nU\nL2\nF\nB2\nD\nD", NISSY_PART_EACH_IN_BRACKETS, 1, 7);
     guarded steps = guard(NISSY_MOST_STEPS + 1);
     memset(steps.bytes, ' ', steps.size);
     memcpy(steps.bytes, "R'", 2);

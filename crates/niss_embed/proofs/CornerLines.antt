@@ -1,5 +1,5 @@
 -- What bytes after others do to the corners; and lines that don't solve since opposite corners don't come to opposite places.
-use Rattle.std.proofs.Common.{◌≡◌, ◌∙◌, ℕ, zero, suc, ◌+◌, ◌-◌, ◌<◌, ◌≤◌, ◌==◌, ◌↔◌, Bool, true, false, ◌&&◌, ◌||◌, List, [], ◌∷◌, ◌++◌, length, map, take, drop, get_or, refl, sym, ap, subst, arith, append-nil, append_assoc, Result, Ok, Err, inl, inr, ◌⊎◌, cond, add-zero, length-append}
+use Rattle.std.proofs.Common.{◌≡◌, ◌∙◌, ℕ, zero, suc, ◌+◌, ◌-◌, ◌<◌, ◌≤◌, ◌==◌, ◌↔◌, Bool, true, false, not, ◌&&◌, ◌||◌, List, [], ◌∷◌, ◌++◌, length, map, take, drop, get_or, refl, sym, ap, subst, arith, append-nil, append_assoc, Result, Ok, Err, inl, inr, ◌⊎◌, cond, add-zero, length-append}
 use Rattle.std.specs.Prelude.{flat_map, slice_index, slice_range, IsTrue}
 use Rattle.std.proofs.Math.Seq.{take-add, get_or-append_seam}
 use Rattle.std.proofs.lemmas.Bool.{cases_lt}
@@ -17,8 +17,8 @@ use Rattle.niss_moves.specs.declared.fault.ReadFault.{ReadFault}
 use Rattle.niss_moves.proofs.CallerLemmas.{inverse-append}
 use Rattle.niss_embed.specs.declared.parts.Brackets.TheVariants.{Kept}
 use Rattle.niss_embed.specs.declared.step_corners.StepCorners.{StepCorners}
-use Rattle.niss_embed.specs.Corners.{Brings, Reads, Ascends, has_bracket, steps_line}
-use Rattle.niss_embed.specs.Parts.{read_byte, solves_line}
+use Rattle.niss_embed.specs.Corners.{Brings, Reads, Ascends, has_bracket}
+use Rattle.niss_embed.specs.Parts.{read_byte, solves_line, steps_line}
 
 -- bytes and then others
 pub spells_both : (bytes more : List ℕ) (n b m c : List Token) → Spells bytes n b → Spells more m c → Spells (bytes ++ more) (n ++ m) (b ++ c)
@@ -60,14 +60,6 @@ spells_in_brackets bytes n b it plain =
       bracketed_are = moves_are ∙ sym (append-nil (flat_map piece_moves w.0));
     }
 
--- the line of all steps with some of them in brackets
-pub spells_around : (before own after : List ℕ) (n b o p m c : List Token) → Spells before n b → Spells own o p → Spells after m c → has_bracket own ≡ false →
-    Spells ((((before ++ (40 ∷ [])) ++ own) ++ (41 ∷ [])) ++ after) (n ++ m) (b ++ (o ++ c))
-spells_around before own after n b o p m c one two three plain =
-    let middle = spells_both (40 ∷ own ++ 41 ∷ []) after [] o m c (spells_in_brackets own o p two plain) three in
-    let bytes_are : before ++ ((40 ∷ own ++ 41 ∷ []) ++ after) ≡ (((before ++ (40 ∷ [])) ++ own) ++ (41 ∷ [])) ++ after = simp append_assoc in
-    subst (λ (v : List ℕ). Spells v (n ++ m) (b ++ (o ++ c))) bytes_are (spells_both before ((40 ∷ own ++ 41 ∷ []) ++ after) n b m (o ++ c) one middle)
-
 pub false_unless : (b : Bool) → (b ≡ true → ⊥) → b ≡ false
 false_unless false unless = refl
 false_unless true unless = absurd (unless refl)
@@ -100,26 +92,23 @@ line_refused is_read one tested scramble line n b spells unless = by_result (rea
         (false_unless (solves scramble m) (λ h. unless (subst IsRotated (sym moves_are) ((tested (joined_moves scramble ++ joined_moves m)).0 h))))
 
 -- No bytes do nothing, and bytes do what the first of them and the others do.
-pub reads_nothing : (c : StepCorners) → Brings c.normal.to [] → Brings c.undone.to [] → Brings c.inverse.to [] → Reads [] c
-reads_nothing c brings undoes inverts = record {
+pub reads_nothing : (c : StepCorners) → Brings c.normal.to [] → Brings c.undone.to [] → Brings c.inverse.to [] → c.plain ≡ true → Reads [] c
+reads_nothing c brings undoes inverts plain = record {
   normal = [];
   bracketed = [];
   spells = record { items = []; bytes_are = refl; normal_are = refl; bracketed_are = refl };
   brings = brings;
   undoes = undoes;
   inverts = inverts;
-  is_plain = λ e. refl;
+  is_plain = plain;
 }
 
-abbrev BringsBoth : (first second both : List ℕ) → Type 0
+abbrev pub BringsBoth : (first second both : List ℕ) → Type 0
 BringsBoth first second both = (s t : List Token) → Brings first s → Brings second t → Brings both (s ++ t)
 
-and_both : (a b : Bool) → (a && b) ≡ true → (a ≡ true) × (b ≡ true)
-and_both true b e = (refl, e)
-and_both false b e = absurd (cc e)
-
-no_bracket_in : (bytes more : List ℕ) → has_bracket bytes ≡ false → has_bracket more ≡ false → has_bracket (bytes ++ more) ≡ false
-no_bracket_in bytes more e f = list_any-append (λ byte. byte == 40) bytes more ∙ (λ i. e i || f i)
+neither : (a b : Bool) → (not a && not b) ≡ not (a || b)
+neither true b = refl
+neither false b = refl
 
 pub reads_both : (a b c : StepCorners) (bytes more : List ℕ) → BringsBoth a.normal.to b.normal.to c.normal.to → BringsBoth b.undone.to a.undone.to c.undone.to →
     BringsBoth b.inverse.to a.inverse.to c.inverse.to → c.plain ≡ (a.plain && b.plain) → Reads bytes a → Reads more b → Reads (bytes ++ more) c
@@ -131,10 +120,15 @@ reads_both a b c bytes more brings undoes inverts plain one two = record {
   undoes = subst (Brings c.undone.to) (sym (inverse-append one.normal two.normal)) (undoes (inverse two.normal) (inverse one.normal) two.undoes one.undoes);
   inverts = subst (Brings c.inverse.to) (sym (inverse-append one.bracketed two.bracketed))
       (inverts (inverse two.bracketed) (inverse one.bracketed) two.inverts one.inverts);
-  is_plain = λ e.
-      let both = and_both a.plain b.plain (sym plain ∙ e) in
-      no_bracket_in bytes more (one.is_plain both.0) (two.is_plain both.1);
+  is_plain =
+      plain ∙ (λ i. one.is_plain i && two.is_plain i) ∙ neither (has_bracket bytes) (has_bracket more)
+      ∙ ap not (sym (list_any-append (λ byte. byte == 40) bytes more));
 }
+
+-- what is plain has no bracket
+pub has_none : (p b : Bool) → p ≡ not b → p ≡ true → b ≡ false
+has_none p true e f = absurd (cc (sym e ∙ f))
+has_none p false e f = refl
 
 -- Bytes are read as bytes that have a bracket if they have one.
 same_bracket : (bytes : List ℕ) → has_bracket (map (read_byte Kept) bytes) ≡ has_bracket bytes
@@ -146,7 +140,7 @@ same_bracket (byte ∷ bytes) = λ i. by_test byte i || same_bracket bytes i
 
 -- a step that was read to its end
 pub step_reads : (bytes : List ℕ) (c : StepCorners) (m : Moves) → IsRead → read_line (map (read_byte Kept) bytes) ≡ Ok m → Brings c.normal.to m.normal →
-    Brings c.undone.to (inverse m.normal) → Brings c.inverse.to (inverse m.bracketed) → (c.plain ≡ true → has_bracket bytes ≡ false) →
+    Brings c.undone.to (inverse m.normal) → Brings c.inverse.to (inverse m.bracketed) → c.plain ≡ not (has_bracket bytes) →
     Reads (map (read_byte Kept) bytes) c
 step_reads bytes c m is_read is brings undoes inverts plain = record {
   normal = m.normal;
@@ -155,7 +149,7 @@ step_reads bytes c m is_read is brings undoes inverts plain = record {
   brings = brings;
   undoes = undoes;
   inverts = inverts;
-  is_plain = λ e. same_bracket bytes ∙ plain e;
+  is_plain = plain ∙ ap not (sym (same_bracket bytes));
 }
 
 -- Steps from one to a second and from there to a third are those from the one to the third.
@@ -184,20 +178,6 @@ pub ascends_between : (bounds : List ℕ) (a b : ℕ) → Ascends bounds → a �
 ascends_between bounds a b up ab l =
     let is : a + (b - a) ≡ b = omega (arith, ab) in
     subst (λ (n : ℕ). slice_index bounds a ≤ slice_index bounds n) is (ascends_to bounds a (b - a) up (omega (arith, is, l)))
-
-not_both : (b : Bool) → b ≡ true → b ≡ false → ⊥
-not_both true t f = cc f
-not_both false t f = cc t
-
--- A test that each rotation passes, and these moves don't, refuses their line.
-pub refused_by : IsRead → HasOneReading → IsTested → (scramble : Moves) (line : List ℕ) (n b i : List Token) (passes : Bool) → Spells line n b → inverse b ≡ i →
-    (IsRotated (joined_moves scramble ++ (n ++ i)) → passes ≡ true) → passes ≡ false → solves_line (Ok scramble) (read_line line) ≡ false
-refused_by is_read one tested scramble line n b i passes spells is test not_passed =
-    line_refused is_read one tested scramble line n b spells
-    (λ w. not_both passes (test (subst (λ (v : List Token). IsRotated (joined_moves scramble ++ (n ++ v))) is w)) not_passed)
-
-pub inverse_around : (b o c : List Token) → inverse (b ++ (o ++ c)) ≡ (inverse c ++ inverse o) ++ inverse b
-inverse_around b o c = inverse-append b (o ++ c) ∙ ap (λ v. v ++ inverse b) (inverse-append o c)
 
 -- one more step
 pub steps_more : (text bounds : List ℕ) (steps more : List StepCorners) (one : StepCorners) (at : ℕ) → length steps + 1 ≡ at → more ≡ steps ++ one ∷ [] →

@@ -16,3 +16,6 @@ pub mod AttemptLemmas
 pub mod AttemptRuns
 pub mod CornerLemmas
 pub mod CornerLines
+pub mod BracketLemmas
+pub mod TailLemmas
+pub mod SetLemmas

@@ -9,6 +9,7 @@ use Rattle.niss_embed.specs.declared.parts.How.{How}
 use Rattle.niss_embed.specs.declared.parts.How.TheVariants.{Alone, LeftOut, InBrackets}
 use Rattle.niss_embed.specs.declared.parts.Part.{Part}
 use Rattle.niss_embed.specs.declared.parts.Found.TheVariants as found
+use Rattle.niss_embed.specs.declared.step_sets.StepSet.{StepSet}
 use Rattle.niss_embed.specs.Corners.{Ascends, AreBounds}
 use Rattle.niss_embed.specs.Parts.{is_end, how_number, part, IsHow, IsPart, IsBefore, IsFirstFrom, IsFound}
 unfoldable use Rattle.niss_embed.specs.Parts.{bounds_of}
@@ -174,9 +175,9 @@ none_more solving steps first none from q among near = last (cases_lt q.first fi
     last (inl less) = none q among less
     last (inr not) = from q among (omega arith)
 
-pub part_found : (solving : Part → Bool) (whole : Bool) (steps first : ℕ) (p : Part) → NoneBefore steps solving first → IsFirstFrom steps solving first (Some p) →
-    IsFound steps solving whole (found.Part p)
-part_found solving whole steps first p none is = (is.1, is.2, λ q among before. earlier q among before)
+pub part_found : (solving : Part → Bool) (whole : Bool) (with_set : StepSet → Bool) (steps first : ℕ) (p : Part) → NoneBefore steps solving first →
+    IsFirstFrom steps solving first (Some p) → IsFound steps solving whole with_set (found.Part p)
+part_found solving whole with_set steps first p none is = (is.1, is.2, λ q among before. earlier q among before)
   where
     earlier : (q : Part) → IsPart steps q → IsBefore q p → solving q ≡ false
     earlier q among (inl less) = none q among (omega (arith, is.0))

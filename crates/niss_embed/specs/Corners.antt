@@ -1,6 +1,6 @@
 -- Where moves bring the corners of the cube, by numbers of their places; and what parts of a line do to the corners.
-use Rattle.std.specs.Prelude.{◌≡◌, ℕ, ◌+◌, ◌*◌, ◌<◌, ◌≤◌, ◌==◌, Bool, true, false, List, [], ◌∷◌, length, map, IfSome, get_or, slice_index, slice_range}
-use Rattle.std.specs.List.{list_any}
+use Rattle.std.specs.Prelude.{◌≡◌, ℕ, ◌+◌, ◌-◌, ◌*◌, ◌<◌, ◌≤◌, ◌⊎◌, ◌==◌, Bool, true, false, not, List, [], ◌∷◌, ◌++◌, length, map, flat_map, IfSome, get_or, slice_index, slice_range}
+use Rattle.std.specs.List.{list_any, range_with_len}
 use Rattle.niss_moves.specs.Effects.{effect, inverse}
 use Rattle.niss_moves.specs.Line.{Spells, Moves, joined_moves}
 use Rattle.niss_moves.specs.Places.{Coord, Pos, Place, is_corner}
@@ -14,7 +14,8 @@ use Rattle.niss_embed.specs.declared.step_corners.StepCorners.{StepCorners}
 use Rattle.niss_embed.specs.declared.step_corners.Around.{Around}
 use Rattle.niss_embed.specs.declared.step_corners.AttemptCorners.{AttemptCorners}
 use Rattle.niss_embed.specs.declared.parts.Part.{Part}
-use Rattle.niss_embed.specs.Parts.{read_byte, end_of_steps}
+use Rattle.niss_embed.specs.declared.step_sets.StepSet.{StepSet}
+use Rattle.niss_embed.specs.Parts.{read_byte, end_of_steps, steps_line, step_with}
 
 abbrev pub side : Coord → ℕ
 side Pos = 1
@@ -55,7 +56,7 @@ pub record Reads (bytes : List ℕ) (c : StepCorners) : Type 0 where
   pub brings : Brings c.normal.to normal
   pub undoes : Brings c.undone.to (inverse normal)
   pub inverts : Brings c.inverse.to (inverse bracketed)
-  pub is_plain : c.plain ≡ true → has_bracket bytes ≡ false
+  pub is_plain : c.plain ≡ not (has_bracket bytes)
 
 -- No place stands before the one that is listed before it.
 abbrev pub Ascends : List ℕ → Type 0
@@ -65,10 +66,6 @@ Ascends bounds = (k : ℕ) → k + 1 < length bounds → slice_index bounds k �
 pub record AreBounds (bounds : List ℕ) : Type 0 where
   pub begins : slice_index bounds 0 ≡ 0
   pub ascend : Ascends bounds
-
--- the steps from one to another as a line
-abbrev pub steps_line : (text bounds : List ℕ) (first behind : ℕ) → List ℕ
-steps_line text bounds first behind = map (read_byte Kept) (slice_range text (slice_index bounds first) (slice_index bounds behind))
 
 -- Each of the steps that begin and end at these places does what the list says.
 pub record AreSteps (text bounds : List ℕ) (steps : List StepCorners) : Type 0 where
@@ -94,3 +91,27 @@ IsAroundPart scramble text bounds p around =
     IsAround around scramble (slice_range text 0 (slice_index bounds p.first))
     (slice_range text (slice_index bounds p.first) (slice_index bounds p.behind))
     (slice_range text (slice_index bounds p.behind) (end_of_steps bounds))
+
+-- The bytes spell moves of which those outside brackets, and then the inverse of those inside, bring corners so.
+pub record BringsLine (bytes to : List ℕ) : Type 0 where
+  pub normal : List Token
+  pub bracketed : List Token
+  pub spells : Spells bytes normal bracketed
+  pub brings : Brings to (normal ++ inverse bracketed)
+
+-- No bytes that end so spell moves.
+abbrev pub EndsNone : List ℕ → Type 0
+EndsNone bytes = (before : List ℕ) (n b : List Token) → Spells (before ++ bytes) n b → ⊥
+
+-- A line that ends so ends in moves that bring corners so.
+abbrev pub IsTail : (bytes to : List ℕ) → Type 0
+IsTail bytes to = BringsLine bytes to ⊎ EndsNone bytes
+
+-- all steps from one on as a line in which each of these stands in brackets of its own
+abbrev pub line_from : (text bounds : List ℕ) → StepSet → ℕ → List ℕ
+line_from text bounds set step = flat_map (step_with text bounds set) (range_with_len step (length bounds - 1 - step))
+
+-- From each step on, the first of them this one, the list has where the moves bring the corners.
+abbrev pub AreTails : (text bounds : List ℕ) → StepSet → (first : ℕ) → List Corners → Type 0
+AreTails text bounds set first tails =
+    (step : ℕ) (none : Corners) → first ≤ step → step < length bounds → IsTail (line_from text bounds set step) (get_or tails step none).to

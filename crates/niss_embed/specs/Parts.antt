@@ -1,5 +1,6 @@
 -- The parts of some steps, and the first of them that solves a scramble.
-use Rattle.std.specs.Prelude.{◌≡◌, ℕ, ◌-◌, ◌<◌, ◌≤◌, ◌⊎◌, ◌==◌, nat_lt, if◌then◌else◌, Bool, true, false, ◌&&◌, ◌||◌, Option, None, Some, Result, Ok, Err, List, [], ◌∷◌, ◌++◌, length, map, take, slice_index, slice_range}
+use Rattle.std.specs.Prelude.{◌≡◌, ℕ, ◌+◌, ◌-◌, ◌^◌, ◌<◌, ◌≤◌, ◌⊎◌, ◌==◌, nat_lt, if◌then◌else◌, Bool, true, false, ◌&&◌, ◌||◌, Option, None, Some, Result, Ok, Err, List, [], ◌∷◌, ◌++◌, length, map, flat_map, take, slice_index, slice_range}
+use Rattle.std.specs.Int.{bit_at}
 use Rattle.std.specs.List.{filter, range_with_len}
 use Rattle.niss_moves.specs.declared.fault.ReadFault.{ReadFault}
 use Rattle.niss_moves.specs.Line.{Moves}
@@ -17,6 +18,7 @@ use Rattle.niss_embed.specs.declared.parts.Part.{Part}
 use Rattle.niss_embed.specs.declared.parts.Found.{Found}
 use Rattle.niss_embed.specs.declared.parts.Found.TheVariants as found
 use Rattle.niss_embed.specs.declared.parts.PartAnswer.{PartAnswer}
+use Rattle.niss_embed.specs.declared.step_sets.StepSet.{StepSet}
 
 -- a step ends before this place: a line feed does, or the text
 abbrev pub is_end : List ℕ → ℕ → Bool
@@ -65,6 +67,40 @@ abbrev pub solves_whole : Result Moves ReadFault → List ℕ → List ℕ → B
 solves_whole scramble text bounds =
     solves_line scramble (read_line (map (read_byte Dropped) (slice_range text 0 (end_of_steps bounds))))
 
+-- A step is one of these. The lowest bit is that of the first step.
+abbrev pub has : StepSet → ℕ → Bool
+has set step = bit_at set.number step == 1
+
+-- which of the first eight steps these are
+abbrev pub steps_in : StepSet → List ℕ
+steps_in set = filter (has set) (range_with_len 0 8)
+
+abbrev pub first_in : StepSet → ℕ
+first_in set = slice_index (steps_in set) 0
+
+abbrev pub last_in : StepSet → ℕ
+last_in set = slice_index (steps_in set) (length (steps_in set) - 1)
+
+-- the steps from one to another as a line
+abbrev pub steps_line : (text bounds : List ℕ) (first behind : ℕ) → List ℕ
+steps_line text bounds first behind = map (read_byte Kept) (slice_range text (slice_index bounds first) (slice_index bounds behind))
+
+-- bytes in brackets of their own, or not
+abbrev pub in_brackets_if : Bool → List ℕ → List ℕ
+in_brackets_if true bytes = 40 ∷ bytes ++ 41 ∷ []
+in_brackets_if false bytes = bytes
+
+-- a step as a line, which stands in brackets if it is one of these
+abbrev pub step_with : (text bounds : List ℕ) → StepSet → ℕ → List ℕ
+step_with text bounds set step = in_brackets_if (has set step) (steps_line text bounds step (step + 1))
+
+-- the line of all steps in which each of these stands in brackets of its own
+abbrev pub line_with : (text bounds : List ℕ) → StepSet → List ℕ
+line_with text bounds set = flat_map (step_with text bounds set) (range_with_len 0 (length bounds - 1))
+
+abbrev pub solves_with : Result Moves ReadFault → (text bounds : List ℕ) → StepSet → Bool
+solves_with scramble text bounds set = solves_line scramble (read_line (line_with text bounds set))
+
 abbrev pub how_number : How → ℕ
 how_number Alone = 1
 how_number LeftOut = 2
@@ -90,19 +126,35 @@ IsFirstFrom steps solving first (Some p) =
     (p.first ≡ first) × IsPart steps p × (solving p ≡ true) × ((q : Part) → IsPart steps q → q.first ≡ first → IsBefore q p → solving q ≡ false)
 IsFirstFrom steps solving first None = (q : Part) → IsPart steps q → q.first ≡ first → solving q ≡ false
 
+-- these are some of so many steps
+abbrev pub AreSome : ℕ → StepSet → Type 0
+AreSome steps set = (0 < set.number) × (set.number < 2 ^ steps)
+
+-- of the sets of so many steps this is the one with the lowest number that solves, if one does
+abbrev pub IsLeast : ℕ → (StepSet → Bool) → Option StepSet → Type 0
+IsLeast steps solving (Some set) =
+    AreSome steps set × (solving set ≡ true) × ((other : StepSet) → AreSome steps other → other.number < set.number → solving other ≡ false)
+IsLeast steps solving None = (set : StepSet) → AreSome steps set → solving set ≡ false
+
 -- what is found is among so many steps
 abbrev pub IsWithin : ℕ → Found → Type 0
 IsWithin steps (found.Part p) = IsPart steps p
 IsWithin steps found.WithoutBrackets = Unit {0}
+IsWithin steps (found.EachInBrackets set) = AreSome steps set
 IsWithin steps found.Nothing = Unit {0}
 
--- What is found of so many steps, by which parts solve and whether all do without their brackets: the first part that
--- solves, else these, else nothing.
-abbrev pub IsFound : ℕ → (Part → Bool) → Bool → Found → Type 0
-IsFound steps solving whole (found.Part p) =
+-- No part of so many steps solves.
+abbrev pub NoneSolves : ℕ → (Part → Bool) → Type 0
+NoneSolves steps solving = (q : Part) → IsPart steps q → solving q ≡ false
+
+-- What is found of so many steps, by which parts solve, whether all do without their brackets, and which sets solve if each
+-- step of theirs is in brackets: the first part that solves, else all, else the least set, else nothing.
+abbrev pub IsFound : ℕ → (Part → Bool) → Bool → (StepSet → Bool) → Found → Type 0
+IsFound steps solving whole with_set (found.Part p) =
     IsPart steps p × (solving p ≡ true) × ((q : Part) → IsPart steps q → IsBefore q p → solving q ≡ false)
-IsFound steps solving whole found.WithoutBrackets = ((q : Part) → IsPart steps q → solving q ≡ false) × (whole ≡ true)
-IsFound steps solving whole found.Nothing = ((q : Part) → IsPart steps q → solving q ≡ false) × (whole ≡ false)
+IsFound steps solving whole with_set found.WithoutBrackets = NoneSolves steps solving × (whole ≡ true)
+IsFound steps solving whole with_set (found.EachInBrackets set) = NoneSolves steps solving × (whole ≡ false) × IsLeast steps with_set (Some set)
+IsFound steps solving whole with_set found.Nothing = NoneSolves steps solving × (whole ≡ false) × IsLeast steps with_set None
 
 abbrev pub no_part : Status → PartAnswer
 no_part status = record { status = status_number status; how = 0; first = 0; last = 0; begin = 0 }
@@ -112,13 +164,16 @@ abbrev pub answer_of : List ℕ → Found → PartAnswer
 answer_of bounds (found.Part p) =
     record { status = status_number Done; how = how_number p.how; first = p.first; last = p.behind - 1; begin = slice_index bounds p.first }
 answer_of bounds found.WithoutBrackets = record { status = status_number Done; how = 4; first = 0; last = length bounds - 1 - 1; begin = 0 }
+answer_of bounds (found.EachInBrackets set) =
+    record { status = status_number Done; how = 5; first = first_in set; last = last_in set; begin = slice_index bounds (first_in set) }
 answer_of bounds found.Nothing = no_part Done
 
 -- What a call tells of a scramble and steps, which begin and end at these places, and of which one is too long or none is.
 abbrev pub Tells : Bool → (scramble steps bounds : List ℕ) → PartAnswer → Type 0
 Tells true scramble steps bounds answer = answer ≡ no_part Stopped
 Tells false scramble steps bounds answer =
-    (it : Found) × IsFound (length bounds - 1) (solves_part (read_line scramble) steps bounds) (solves_whole (read_line scramble) steps bounds) it
+    (it : Found) × IsFound (length bounds - 1) (solves_part (read_line scramble) steps bounds) (solves_whole (read_line scramble) steps bounds)
+    (solves_with (read_line scramble) steps bounds) it
     × (answer ≡ answer_of bounds it)
 
 -- the first eight steps

@@ -58,6 +58,9 @@ impl Corners {
         to: [0, 1, 2, 3, 4, 5, 6, 7],
     };
 
+    /// All are brought to one place, as no moves bring them.
+    pub const NOWHERE: Corners = Corners { to: [0; 8] };
+
     /// By one move. A slice turn brings no corner anywhere, a wide turn brings them as that of its face does.
     #[inline(never)]
     fn after_move(token: Token) -> Corners

@@ -41,6 +41,7 @@ mod search_answer;
 mod sides;
 mod sides_answer;
 mod step_corners;
+mod step_sets;
 mod stretch;
 mod two_lines;
 mod ways_answer;

@@ -1,7 +1,7 @@
 //! Whether a part of the steps of an attempt solves its scramble.
 ghost use Rattle.std.specs.Prelude.{◌≡◌, ◌<◌, ◌≤◌, ◌+◌, ◌-◌, ◌++◌, ℕ, List, [], ◌∷◌, Ok, length, map, take, IfSome};
 ghost use Rattle.niss_moves.specs.Reader.{IsFed, read_line};
-ghost use Rattle.niss_embed.specs.Parts.{bounds_of, is_end, read_byte, how_number, arranged, solves_line, solves_part, solves_whole, part};
+ghost use Rattle.niss_embed.specs.Parts.{bounds_of, is_end, read_byte, how_number, arranged, solves_line, solves_part, solves_whole, solves_with, part};
 ghost use Rattle.niss_shell.specs.Words.{most_bytes};
 ghost use Rattle.niss_embed.specs.Corners.{AreBounds, IsAttempt, IsAroundPart};
 ghost use Rattle.niss_embed.specs.Parts.{IsHow, IsFirstFrom, IsFound, IsWithin, TellsPart, answer_of, no_part};
@@ -9,6 +9,7 @@ ghost use Rattle.niss_embed.specs.Parts.{IsHow, IsFirstFrom, IsFound, IsWithin, 
 use crate::answer::Status;
 use crate::line_texts::read_by;
 use crate::step_corners::{Around, AttemptCorners};
+use crate::step_sets::{StepSet, feed_step, least_set};
 use crate::stretch::stretch;
 use arrayvec::ArrayVec;
 use niss_moves::{LineReader, Niss};
@@ -23,13 +24,13 @@ const MOST_STEP_BYTES: usize = 65_536;
 pub struct PartAnswer {
     /// The number of a `Status`.
     pub status: u8,
-    /// 0 if no part solves, 1 to 3 in the order of `How`, 4 if all steps solve without their brackets.
+    /// 0 if nothing solves, 1 to 3 in the order of `How`, 4 if all steps solve without their brackets, 5 if some in brackets.
     pub how: u8,
-    /// The first step of the part, from 0.
+    /// The first step of the part, or of those in brackets, from 0.
     pub first: u8,
-    /// Its last step.
+    /// The last of them.
     pub last: u8,
-    /// Where its first step begins.
+    /// Where the first one begins.
     pub begin: usize,
 }
 
@@ -72,6 +73,8 @@ pub enum Found {
     Part(Part),
     /// All steps solve without their brackets.
     WithoutBrackets,
+    /// All do, and each of these is in brackets of its own.
+    EachInBrackets(StepSet),
     Nothing,
 }
 
@@ -152,7 +155,7 @@ pub fn feed(reader: &mut LineReader, steps: &[u8], brackets: Brackets)
 }
 
 /// Whether the line that was read has moves, and solves a scramble.
-fn solves_so(scramble: &Niss, reader: &mut LineReader) -> bool
+pub fn solves_so(scramble: &Niss, reader: &mut LineReader) -> bool
     ensures { (line : List ℕ) → IsFed reader.old line → result ≡ solves_line (Ok scramble.now) (read_line line) }
 {
     match reader.end() {
@@ -175,9 +178,7 @@ fn feed_part(reader: &mut LineReader, how: How, before: &[u8], own: &[u8], after
         }
         How::InBrackets => {
             feed(reader, before, Brackets::Kept);
-            feed(reader, b"(", Brackets::Kept);
-            feed(reader, own, Brackets::Kept);
-            feed(reader, b")", Brackets::Kept);
+            feed_step(reader, own, true);
             feed(reader, after, Brackets::Kept);
         }
     }
@@ -301,7 +302,7 @@ fn found_in(scramble: &Niss, text: &[u8], bounds: &[usize]) -> Found
     requires bounds { AreBounds bounds.now }
     requires room { length text.now ≤ 65536 }
     ensures { IsFound (length bounds.now - 1) (solves_part (Ok scramble.now) text.now bounds.now)
-        (solves_whole (Ok scramble.now) text.now bounds.now) result }
+        (solves_whole (Ok scramble.now) text.now bounds.now) (solves_with (Ok scramble.now) text.now bounds.now) result }
 {
     let corners = AttemptCorners::of(scramble, text, bounds);
     for first in 0..bounds.len() {
@@ -310,9 +311,11 @@ fn found_in(scramble: &Niss, text: &[u8], bounds: &[usize]) -> Found
         }
     }
     if solves_whole(scramble, text, bounds) {
-        Found::WithoutBrackets
-    } else {
-        Found::Nothing
+        return Found::WithoutBrackets;
+    }
+    match least_set(scramble, text, bounds, &corners) {
+        Some(set) => Found::EachInBrackets(set),
+        None => Found::Nothing,
     }
 }
 
@@ -322,7 +325,7 @@ fn found_after(scramble: &[u8], text: &[u8], bounds: &[usize]) -> Found
     requires bounds { AreBounds bounds.now }
     requires room { (length scramble.now ≤ most_bytes) × (length text.now ≤ 65536) }
     ensures { IsFound (length bounds.now - 1) (solves_part (read_line scramble.now) text.now bounds.now)
-        (solves_whole (read_line scramble.now) text.now bounds.now) result }
+        (solves_whole (read_line scramble.now) text.now bounds.now) (solves_with (read_line scramble.now) text.now bounds.now) result }
 {
     let mut reader = LineReader::new();
     match read_by(&mut reader, scramble) {
@@ -365,14 +368,22 @@ impl PartAnswer {
                 last: (bounds.len() - 1).saturating_sub(1) as u8,
                 ..done
             },
+            Found::EachInBrackets(set) => PartAnswer {
+                how: 5,
+                first: set.first() as u8,
+                last: set.last() as u8,
+                begin: bounds[set.first()],
+                ..done
+            },
             Found::Nothing => done,
         }
     }
 }
 
 /// Whether a part of the first eight steps of an attempt solves its scramble, and which: the first in order of `IsBefore`.
-/// Steps stand a line each. A part that has a fault doesn't solve, and nothing does if the scramble has one. The answer
-/// says `Stopped` if the scramble or these steps have too many bytes.
+/// Else whether all do without their brackets, or with some in brackets of their own: those with the lowest number. Steps
+/// stand a line each. What has a fault doesn't solve, and nothing does if the scramble has one. The answer says `Stopped`
+/// if the scramble or these steps have too many bytes.
 pub fn solving_part(scramble: &[u8], steps: &[u8]) -> PartAnswer
     ensures { TellsPart scramble.now steps.now result }
 {

@@ -1,18 +1,19 @@
 //! What steps of an attempt do to the corners of the cube.
 ghost use Rattle.std.specs.Prelude.{◌≡◌, ◌<◌, ◌≤◌, ℕ, false, List, [], ◌++◌, Ok, map, IfSome, IsTrue, length};
 ghost use Rattle.niss_moves.specs.Effects.{inverse};
-ghost use Rattle.niss_moves.specs.Line.{Moves};
+ghost use Rattle.niss_moves.specs.Line.{Moves, joined_moves};
 ghost use Rattle.niss_moves.specs.Reader.{read_line};
 ghost use Rattle.niss_moves.specs.Solving.{IsRotated};
 ghost use Rattle.niss_moves.specs.declared.token.Token.{Token};
-ghost use Rattle.niss_embed.specs.Corners.{Brings, Reads, AreBounds, AreSteps, IsAround, IsAroundPart, IsAttempt, steps_line};
-ghost use Rattle.niss_embed.specs.Parts.{read_byte, arranged, solves_line, part};
+ghost use Rattle.niss_embed.specs.Corners.{Brings, Reads, AreBounds, AreSteps, IsAround, IsAroundPart, IsAttempt, IsTail, AreTails};
+ghost use Rattle.niss_embed.specs.Parts.{read_byte, arranged, solves_line, part, steps_line, in_brackets_if};
 ghost use Rattle.niss_embed.specs.declared.parts.How.TheVariants.{Alone};
 ghost use Rattle.niss_embed.specs.declared.parts.Brackets.TheVariants.{Kept};
 
 use crate::corners::Corners;
 use crate::line_facts::has_brackets;
 use crate::parts::{Brackets, How, feed};
+use crate::step_sets::StepSet;
 use crate::stretch::stretch;
 use arrayvec::ArrayVec;
 use niss_moves::laws::{line_is_read, one_reading, rotated_is_tested};
@@ -72,6 +73,22 @@ impl StepCorners {
             plain: self.plain && next.plain,
         }
     }
+
+    /// The moves of this step and of later ones outside brackets, and then the inverse of those inside. The step stands in
+    /// brackets or not; if it has some, none stand around it.
+    #[inline(never)]
+    fn with_later(&self, later: &Corners, in_brackets: bool) -> Corners
+        ensures { (bytes more : List ℕ) → Reads bytes self.now → IsTail more later.now.to →
+            IsTail (in_brackets_if in_brackets bytes ++ more) result.to }
+    {
+        if !in_brackets {
+            return self.normal.then(&later.then(&self.inverse));
+        }
+        if !self.plain {
+            return Corners::NOWHERE;
+        }
+        later.then(&self.undone)
+    }
 }
 
 /// What a step does, if it is a line by itself.
@@ -125,41 +142,42 @@ pub struct Around {
     pub after: StepCorners,
 }
 
+/// Whether a line whose moves bring corners so may solve a scramble: whether opposite corners come to opposite places.
+#[inline(never)]
+fn may_solve(scramble: &Corners, line: &Corners) -> bool
+    ensures { (moves : Moves) (bytes : List ℕ) → Brings scramble.now.to (joined_moves moves) → IsTail bytes line.now.to →
+        result ≡ false → solves_line (Ok moves) (read_line bytes) ≡ false }
+{
+    line_is_read();
+    one_reading();
+    rotated_is_tested();
+    scramble.then(line).opposites_stay()
+}
+
 impl Around {
-    /// Whether the line that is made so may solve the scramble: whether opposite corners come to opposite places.
+    /// Where the moves of the line that is made so bring the corners.
+    fn line(&self, how: How) -> Corners
+        ensures { (scramble : Moves) (before own after : List ℕ) → IsAround self.now scramble before own after →
+            IsTail (arranged how before own after) result.to }
+    {
+        let after = self.after.with_later(&Corners::HOME, false);
+        match how {
+            How::Alone => self.own.with_later(&Corners::HOME, false),
+            How::LeftOut => self.before.with_later(&after, false),
+            How::InBrackets => {
+                let later = self.own.with_later(&after, true);
+                self.before.with_later(&later, false)
+            }
+        }
+    }
+
+    /// Whether that line may solve the scramble.
     #[inline(never)]
     pub fn may_solve(&self, how: How) -> bool
         ensures { (scramble : Moves) (before own after : List ℕ) → IsAround self.now scramble before own after →
             result ≡ false → solves_line (Ok scramble) (read_line (arranged how before own after)) ≡ false }
     {
-        line_is_read();
-        one_reading();
-        rotated_is_tested();
-        match how {
-            How::Alone => self.is_rotated_by(&self.own.normal, &self.own.inverse),
-            How::LeftOut => self.is_rotated_by(
-                &self.before.normal.then(&self.after.normal),
-                &self.after.inverse.then(&self.before.inverse),
-            ),
-            How::InBrackets => !self.own.plain
-                || self.is_rotated_by(
-                    &self.before.normal.then(&self.after.normal),
-                    &self
-                        .after
-                        .inverse
-                        .then(&self.own.undone)
-                        .then(&self.before.inverse),
-                ),
-        }
-    }
-
-    /// Whether opposite corners come to opposite places by the scramble, normal moves, and the inverse of bracketed ones.
-    #[inline(never)]
-    fn is_rotated_by(&self, normal: &Corners, inverse: &Corners) -> bool
-        ensures { (s n b : List Token) → Brings self.now.scramble.to s → Brings normal.now.to n → Brings inverse.now.to b →
-            IsRotated (s ++ (n ++ b)) → IsTrue result }
-    {
-        self.scramble.then(&normal.then(inverse)).opposites_stay()
+        may_solve(&self.scramble, &self.line(how))
     }
 }
 
@@ -203,5 +221,27 @@ impl AttemptCorners {
             own: corners_between(steps.as_slice(), first, behind),
             after: corners_between(steps.as_slice(), behind, steps.len()),
         })
+    }
+
+    /// Works out anew what the steps from each one on do, of the first so many, if some stand in brackets.
+    pub fn renew(&self, tails: &mut [Corners; 9], set: StepSet, count: usize)
+        requires { IfSome self.now.steps (λ steps. count ≤ length steps.items) }
+        ensures { (text bounds : List ℕ) → IfSome self.now.steps (λ steps. AreSteps text bounds steps.items →
+            AreTails text bounds set count tails.old → AreTails text bounds set 0 tails.new) }
+    {
+        let Some(steps) = &self.steps else {
+            return;
+        };
+        for step in (0..count).rev() {
+            tails[step] = steps[step].with_later(&tails[step + 1], set.has(step));
+        }
+    }
+
+    /// Whether a line of all steps, whose moves bring corners so, may solve the scramble.
+    pub fn may_solve(&self, line: &Corners) -> bool
+        ensures { (scramble : Moves) (bytes : List ℕ) → Brings self.now.scramble.to (joined_moves scramble) →
+            IfSome self.now.steps (λ steps. IsTail bytes line.now.to) → result ≡ false → solves_line (Ok scramble) (read_line bytes) ≡ false }
+    {
+        self.steps.is_none() || may_solve(&self.scramble, line)
     }
 }

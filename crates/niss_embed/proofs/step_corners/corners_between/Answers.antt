@@ -1,6 +1,7 @@
 use Rattle.std.proofs.Common.{◌+◌, ℕ, List, arith, subst}
 use Rattle.std.specs.Prelude.{slice_index}
-use Rattle.niss_embed.specs.Corners.{Reads, steps_line}
+use Rattle.niss_embed.specs.Corners.{Reads}
+use Rattle.niss_embed.specs.Parts.{steps_line}
 use Rattle.niss_embed.proofs.CornerLines.{joined_steps, ascends_between}
 use Rattle.niss_embed.proofs.step_corners.corners_between.Goals as goal
 

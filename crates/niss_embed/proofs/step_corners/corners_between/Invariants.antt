@@ -1,5 +1,6 @@
 use Rattle.std.proofs.Common.{ℕ, List}
-use Rattle.niss_embed.specs.Corners.{Reads, AreSteps, steps_line}
+use Rattle.niss_embed.specs.Corners.{Reads, AreSteps}
+use Rattle.niss_embed.specs.Parts.{steps_line}
 use Rattle.niss_embed.proofs.step_corners.corners_between.Given as goal
 
 abbrev pub invariant-loop-at : goal.invariant-loop-at

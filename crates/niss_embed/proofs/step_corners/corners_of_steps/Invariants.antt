@@ -1,6 +1,7 @@
 use Rattle.std.proofs.Common.{◌≡◌, ℕ, ◌+◌, ◌<◌, length, get_or}
 use Rattle.niss_embed.specs.declared.step_corners.StepCorners.{StepCorners}
-use Rattle.niss_embed.specs.Corners.{Reads, steps_line}
+use Rattle.niss_embed.specs.Corners.{Reads}
+use Rattle.niss_embed.specs.Parts.{steps_line}
 use Rattle.niss_embed.proofs.step_corners.corners_of_steps.Given as goal
 
 abbrev pub invariant-loop-at : goal.invariant-loop-at

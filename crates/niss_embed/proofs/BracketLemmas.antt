@@ -1,0 +1,160 @@
+-- No line has a bracket that stands in another one.
+use Rattle.std.proofs.Common.{◌≡◌, ◌∙◌, ℕ, ◌==◌, Bool, true, false, not, cond, if◌then◌else◌, ◌&&◌, ◌||◌, List, [], ◌∷◌, ◌++◌, refl, sym, ap, subst, append_assoc}
+use Rattle.std.specs.Prelude.{flat_map}
+use Rattle.std.specs.List.{list_all}
+use Rattle.std.proofs.lemmas.List.Folds.{list_any-append, list_all-append}
+use Rattle.niss_moves.specs.Line.{Piece, piece_bytes, base_bytes, suffix_bytes, Suffix, Item, item_bytes, Spells}
+use Rattle.niss_moves.specs.Line.Piece.{Gap, Spelled}
+use Rattle.niss_moves.specs.Line.Blank.{Space, Tab, Return}
+use Rattle.niss_moves.specs.Line.Apostrophe.{Plain, Typographic}
+use Rattle.niss_moves.specs.Line.Item.{Outside, Bracket}
+use Rattle.niss_moves.specs.declared.token.Base.{Base}
+use Rattle.niss_moves.specs.declared.token.Slice.TheVariants.{M, E, S}
+use Rattle.niss_moves.specs.declared.turn.Axis.TheVariants.{Ud, Rl, Fb}
+use Rattle.niss_moves.specs.declared.token.Token.{Token}
+use Rattle.niss_moves.proofs.CallerLemmas.{Yes, Faces, holds, and_left, and_right}
+unfoldable use Rattle.niss_moves.proofs.CallerLemmas.{every_face}
+use Rattle.niss_embed.specs.Corners.{EndsNone, has_bracket}
+
+-- where a byte stands: outside brackets, in one, or after a bracket that stands wrong
+data Depth : Type 0 where
+  Out : Depth
+  In : Depth
+  Wrong : Depth
+
+abbrev after_opening : Depth → Depth
+after_opening Out = In
+after_opening In = Wrong
+after_opening Wrong = Wrong
+
+abbrev after_closing : Depth → Depth
+after_closing Out = Wrong
+after_closing In = Out
+after_closing Wrong = Wrong
+
+abbrev after_byte : Depth → ℕ → Depth
+after_byte d byte = if byte == 40 then after_opening d else (if byte == 41 then after_closing d else d)
+
+abbrev after_bytes : Depth → List ℕ → Depth
+after_bytes d [] = d
+after_bytes d (byte ∷ bytes) = after_bytes (after_byte d byte) bytes
+
+after_both : (d : Depth) (xs ys : List ℕ) → after_bytes d (xs ++ ys) ≡ after_bytes (after_bytes d xs) ys
+after_both d [] ys = refl
+after_both d (x ∷ xs) ys = after_both (after_byte d x) xs ys
+
+-- after a bracket that stands wrong all is
+wrong_byte : (byte : ℕ) → after_byte Wrong byte ≡ Wrong
+wrong_byte byte = by_tests (byte == 40) (byte == 41)
+  where
+    by_tests : (a b : Bool) → cond a Wrong (cond b Wrong Wrong) ≡ Wrong
+    by_tests true b = refl
+    by_tests false true = refl
+    by_tests false false = refl
+
+wrong_stays : (bytes : List ℕ) → after_bytes Wrong bytes ≡ Wrong
+wrong_stays [] = refl
+wrong_stays (byte ∷ bytes) = ap (λ d. after_bytes d bytes) (wrong_byte byte) ∙ wrong_stays bytes
+
+-- Pieces have no brackets.
+abbrev is_none : ℕ → Bool
+is_none byte = not (byte == 40) && not (byte == 41)
+
+base_has_none : (b : Base) → list_all is_none (base_bytes b) ≡ true
+unfolding every_face
+base_has_none (Base.Face f) = holds (Faces λ f. Yes (list_all is_none (base_bytes (Base.Face f)))) refl f
+base_has_none (Base.Wide f) = holds (Faces λ f. Yes (list_all is_none (base_bytes (Base.Wide f)))) refl f
+base_has_none (Base.LowerCase f) = holds (Faces λ f. Yes (list_all is_none (base_bytes (Base.LowerCase f)))) refl f
+base_has_none (Base.Slice l) = elim l as (λ l. list_all is_none (base_bytes (Base.Slice l)) ≡ true) [ M ↦ refl | E ↦ refl | S ↦ refl ]
+base_has_none (Base.Rotation a) = elim a as (λ a. list_all is_none (base_bytes (Base.Rotation a)) ≡ true) [ Ud ↦ refl | Rl ↦ refl | Fb ↦ refl ]
+
+suffix_has_none : (s : Suffix) → list_all is_none (suffix_bytes s) ≡ true
+suffix_has_none Suffix.Nothing = refl
+suffix_has_none Suffix.Two = refl
+suffix_has_none (Suffix.Prime Plain) = refl
+suffix_has_none (Suffix.Prime Typographic) = refl
+suffix_has_none (Suffix.TwoPrime Plain) = refl
+suffix_has_none (Suffix.TwoPrime Typographic) = refl
+
+piece_has_none : (p : Piece) → list_all is_none (piece_bytes p) ≡ true
+piece_has_none (Gap Space) = refl
+piece_has_none (Gap Tab) = refl
+piece_has_none (Gap Return) = refl
+piece_has_none (Spelled b s) =
+    list_all-append is_none (base_bytes b) (suffix_bytes s) ∙ (λ i. base_has_none b i && suffix_has_none s i)
+
+none_stays : (d : Depth) (bytes : List ℕ) → list_all is_none bytes ≡ true → after_bytes d bytes ≡ d
+none_stays d [] e = refl
+none_stays d (byte ∷ bytes) e =
+    ap (λ s. after_bytes s bytes) (by_tests (byte == 40) (byte == 41) (and_left _ _ e)) ∙ none_stays d bytes (and_right (is_none byte) _ e)
+  where
+    by_tests : (a b : Bool) → (not a && not b) ≡ true → cond a (after_opening d) (cond b (after_closing d) d) ≡ d
+    by_tests false false e = refl
+    by_tests false true e = absurd (cc e)
+    by_tests true b e = absurd (cc e)
+
+none_opens : (bytes : List ℕ) → list_all is_none bytes ≡ true → has_bracket bytes ≡ false
+none_opens [] e = refl
+none_opens (byte ∷ bytes) e = λ i. by_tests (byte == 40) (byte == 41) (and_left _ _ e) i || none_opens bytes (and_right (is_none byte) _ e) i
+  where
+    by_tests : (a b : Bool) → (not a && not b) ≡ true → a ≡ false
+    by_tests false b e = refl
+    by_tests true b e = absurd (cc e)
+
+pieces_stay : (d : Depth) (ps : List Piece) → after_bytes d (flat_map piece_bytes ps) ≡ d
+pieces_stay d [] = refl
+pieces_stay d (p ∷ ps) =
+    after_both d (piece_bytes p) (flat_map piece_bytes ps)
+    ∙ ap (λ s. after_bytes s (flat_map piece_bytes ps)) (none_stays d (piece_bytes p) (piece_has_none p)) ∙ pieces_stay d ps
+
+-- Items end outside brackets.
+item_ends_out : (it : Item) → after_bytes Out (item_bytes it) ≡ Out
+item_ends_out (Outside p) = none_stays Out (piece_bytes p) (piece_has_none p)
+item_ends_out (Bracket ps) =
+    after_both In (flat_map piece_bytes ps) (41 ∷ []) ∙ ap (λ d. after_bytes d (41 ∷ [])) (pieces_stay In ps)
+
+items_end_out : (items : List Item) → after_bytes Out (flat_map item_bytes items) ≡ Out
+items_end_out [] = refl
+items_end_out (it ∷ items) =
+    after_both Out (item_bytes it) (flat_map item_bytes items) ∙ ap (λ d. after_bytes d (flat_map item_bytes items)) (item_ends_out it)
+    ∙ items_end_out items
+
+-- In a bracket those with one are wrong.
+or_second : (a b : Bool) → (a || b) ≡ true → a ≡ false → b ≡ true
+or_second false b e f = e
+or_second true b e f = absurd (cc f)
+
+items_end_wrong : (items : List Item) → has_bracket (flat_map item_bytes items) ≡ true → after_bytes In (flat_map item_bytes items) ≡ Wrong
+items_end_wrong [] e = absurd (cc e)
+items_end_wrong (Outside p ∷ items) e =
+    let rest : List ℕ = flat_map item_bytes items in
+    let either = sym (list_any-append (λ byte. byte == 40) (piece_bytes p) rest) ∙ e in
+    let more : has_bracket rest ≡ true = or_second (has_bracket (piece_bytes p)) (has_bracket rest) either (none_opens (piece_bytes p) (piece_has_none p)) in
+    after_both In (piece_bytes p) rest ∙ ap (λ d. after_bytes d rest) (none_stays In (piece_bytes p) (piece_has_none p)) ∙ items_end_wrong items more
+items_end_wrong (Bracket ps ∷ items) e = wrong_stays ((flat_map piece_bytes ps ++ 41 ∷ []) ++ flat_map item_bytes items)
+
+in_brackets_wrong : (own after : List ℕ) (d : Depth) → after_bytes In own ≡ Wrong → after_bytes d ((40 ∷ own ++ 41 ∷ []) ++ after) ≡ Wrong
+in_brackets_wrong own after Out e =
+    after_both In (own ++ 41 ∷ []) after
+    ∙ ap (λ d. after_bytes d after) (after_both In own (41 ∷ []) ∙ ap (λ d. after_bytes d (41 ∷ [])) e) ∙ wrong_stays after
+in_brackets_wrong own after In e = wrong_stays ((own ++ 41 ∷ []) ++ after)
+in_brackets_wrong own after Wrong e = wrong_stays ((own ++ 41 ∷ []) ++ after)
+
+is_not_wrong : Out ≡ Wrong → ⊥
+is_not_wrong e = cc e
+
+-- Bytes that spell moves and have a bracket stand in no other one.
+pub nested_ends_none : (own after : List ℕ) (n b : List Token) → Spells own n b → has_bracket own ≡ true → EndsNone ((40 ∷ own ++ 41 ∷ []) ++ after)
+nested_ends_none own after n b it has before m c line =
+    let wrong : after_bytes In own ≡ Wrong =
+    ap (after_bytes In) it.bytes_are ∙ items_end_wrong it.items (ap has_bracket (sym it.bytes_are) ∙ has) in
+    let all : List ℕ = before ++ ((40 ∷ own ++ 41 ∷ []) ++ after) in
+    let ends_out : after_bytes Out all ≡ Out = ap (after_bytes Out) line.bytes_are ∙ items_end_out line.items in
+    let ends_wrong : after_bytes Out all ≡ Wrong =
+    after_both Out before ((40 ∷ own ++ 41 ∷ []) ++ after) ∙ in_brackets_wrong own after (after_bytes Out before) wrong in
+    is_not_wrong (sym ends_out ∙ ends_wrong)
+
+pub more_ends_none : (own more : List ℕ) → EndsNone more → EndsNone (own ++ more)
+more_ends_none own more none before n b line =
+    let same : before ++ (own ++ more) ≡ (before ++ own) ++ more = simp append_assoc in
+    none (before ++ own) n b (subst (λ (v : List ℕ). Spells v n b) same line)

@@ -1,0 +1,126 @@
+//! Steps of an attempt that, each put in brackets of its own, have it solve its scramble.
+ghost use Rattle.std.specs.Prelude.{◌≡◌, ◌<◌, ◌≤◌, ◌+◌, ◌-◌, ◌*◌, ◌^◌, ◌++◌, ℕ, List, [], Ok, length};
+ghost use Rattle.niss_moves.specs.Reader.{IsFed};
+ghost use Rattle.niss_embed.specs.Corners.{IsAttempt};
+ghost use Rattle.niss_embed.specs.Parts.{IsLeast, has, first_in, last_in, in_brackets_if, line_with, solves_with, read_byte};
+ghost use Rattle.niss_embed.specs.declared.parts.Brackets.TheVariants.{Kept};
+ghost use Rattle.std.specs.Prelude.{map};
+
+use crate::corners::Corners;
+use crate::parts::{Brackets, feed, solves_so};
+use crate::step_corners::AttemptCorners;
+use crate::stretch::stretch;
+use niss_moves::{LineReader, Niss};
+
+/// Some of the first eight steps.
+#[derive(Clone, Copy)]
+pub struct StepSet {
+    /// A bit for each: the lowest is that of the first step.
+    pub number: usize,
+}
+
+impl StepSet {
+    /// No step.
+    const EMPTY: StepSet = StepSet { number: 0 };
+
+    /// Whether a step is one of them.
+    pub fn has(self, step: usize) -> bool
+        requires { step < 64 }
+        ensures { result ≡ has self step }
+    {
+        self.number >> step & 1 == 1
+    }
+
+    /// The first of them.
+    pub fn first(self) -> usize
+        requires { (0 < self.number) × (self.number < 256) }
+        ensures is { result ≡ first_in self }
+        ensures among { (steps : ℕ) → self.number < 2 ^ steps → result < steps }
+    {
+        self.number.trailing_zeros() as usize
+    }
+
+    /// The last of them.
+    pub fn last(self) -> usize
+        requires { (0 < self.number) × (self.number < 256) }
+        ensures is { result ≡ last_in self }
+        ensures few { result < 8 }
+    {
+        self.number.ilog2() as usize
+    }
+}
+
+/// Has a reader read a step, in brackets or not.
+#[inline(never)]
+pub fn feed_step(reader: &mut LineReader, step: &[u8], in_brackets: bool)
+    requires { reader.old.fed + length step.now ≤ 16777214 }
+    ensures fed { reader.new.fed ≤ reader.old.fed + length step.now + 2 }
+    ensures bytes { (front : List ℕ) → IsFed reader.old front →
+        IsFed reader.new (front ++ in_brackets_if in_brackets (map (read_byte Kept) step.now)) }
+{
+    if !in_brackets {
+        return feed(reader, step, Brackets::Kept);
+    }
+    feed(reader, b"(", Brackets::Kept);
+    feed(reader, step, Brackets::Kept);
+    feed(reader, b")", Brackets::Kept);
+}
+
+/// Has a reader read all steps, of which some stand in brackets.
+fn feed_steps(reader: &mut LineReader, text: &[u8], bounds: &[usize], set: StepSet)
+    requires new { (reader.old.fed ≡ 0) × IsFed reader.old [] }
+    requires some { (0 < length bounds.now) × (length bounds.now ≤ 9) }
+    requires room { length text.now ≤ 65536 }
+    ensures { IsFed reader.new (line_with text.now bounds.now set) }
+{
+    for step in 0..bounds.len() - 1 {
+        let own = stretch(text, bounds[step], bounds[step + 1]);
+        feed_step(reader, own, set.has(step));
+    }
+}
+
+/// Whether all steps solve a scramble if some of them stand in brackets.
+fn solves_with(scramble: &Niss, text: &[u8], bounds: &[usize], set: StepSet) -> bool
+    requires some { (0 < length bounds.now) × (length bounds.now ≤ 9) }
+    requires room { length text.now ≤ 65536 }
+    ensures { result ≡ solves_with (Ok scramble.now) text.now bounds.now set }
+{
+    let mut reader = LineReader::new();
+    feed_steps(&mut reader, text, bounds, set);
+    solves_so(scramble, &mut reader)
+}
+
+/// How many sets of so many steps there are.
+fn count_of_sets(steps: usize) -> usize
+    requires { steps ≤ 8 }
+    ensures is { result ≡ 2 ^ steps }
+    ensures few { result ≤ 256 }
+{
+    1 << steps
+}
+
+/// The set of steps with the lowest number that, each in brackets, solve a scramble. Most sets are seen not to by what they
+/// do to the corners: the steps after the first one of a set stand as in the set before it.
+pub fn least_set(
+    scramble: &Niss,
+    text: &[u8],
+    bounds: &[usize],
+    corners: &AttemptCorners,
+) -> Option<StepSet>
+    requires some { (0 < length bounds.now) × (length bounds.now ≤ 9) }
+    requires room { length text.now ≤ 65536 }
+    requires corners { IsAttempt corners.now scramble.now text.now bounds.now }
+    ensures { IsLeast (length bounds.now - 1) (solves_with (Ok scramble.now) text.now bounds.now) result }
+{
+    let steps = bounds.len() - 1;
+    let mut tails = [Corners::HOME; 9];
+    corners.renew(&mut tails, StepSet::EMPTY, steps);
+    for number in 1..count_of_sets(steps) {
+        let set = StepSet { number };
+        corners.renew(&mut tails, set, set.first() + 1);
+        if corners.may_solve(&tails[0]) && solves_with(scramble, text, bounds, set) {
+            return Some(set);
+        }
+    }
+    None
+}
