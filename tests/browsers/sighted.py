@@ -1,8 +1,9 @@
 """What the page shows, read of it card by card in the form in which `told` says what is wanted, and a comparison that counts the values."""
 import re
+from collections import Counter
 
 from browser import Browser
-from told import AXES, Line, Moves, bracketed, cells, heads, is_reduced, passed, states, trigger, twins_said
+from told import AXES, Line, Listed, Moves, bracketed, cells, heads, is_reduced, passed, states, trigger, twins_said
 from wanted import SIDES, TITLES, counted
 from tally import Tally  # isort: skip
 from ways import Way  # isort: skip
@@ -45,6 +46,14 @@ KEPT = (
     [...each.querySelectorAll(':scope > .step > .step')].map((one) => [one.querySelector('.moves').textContent, texts(one, '.chip'), passed(one)]),
     texts(each, '.total'), texts(each, ':scope > .step > .case'), each.querySelector('.note-field').value, texts(each, 'dl output')])"""
 )
+COMPARED = """return all('#comparison-lines li').map((each) => [
+    each.querySelector('h3').textContent, each.querySelector('.total').textContent,
+    [...each.querySelectorAll('.net')].map((net) => [...net.querySelectorAll('.sticker')].map((one) => one.dataset.colour).join('')),
+    [...each.querySelectorAll('figure')].map((one) => [one.querySelector('figcaption').textContent,
+        [...one.querySelectorAll('.sticker')].flatMap((sticker, at) => sticker.matches('.bad') ? [at] : [])]),
+    [...each.querySelectorAll('tbody tr')].map((row) => [...row.children].map((cell) => cell.textContent)),
+    [...each.querySelectorAll(':scope > p')].slice(1).map((one) => one.textContent)])"""
+CASES = """return all('#%s-cases-chips button').map((each) => each.textContent.trim().split(' '))"""
 MARKED = """return ['normal', 'inverse'].map((side) => [part(`marked-${side}`).textContent,
     all(`#net-${side} .sticker`).flatMap((each, at) => each.matches('.bad') ? [at] : [])])"""
 CHIPS = (
@@ -126,20 +135,30 @@ class Beside:
             self.same(f"{what}: {name}", self.browser.content(name), wanted)
         self.same(f"{what}: the set-ups", self.browser.texts("#set-ups output"), line.set_ups())
 
-    def best(self, what: str, line: Line, ways: list[Way]) -> None:
-        """The best ways on, as many as are shown of them, and how many there are."""
+    def best(self, what: str, line: Line, ways: list[Way], note: str) -> None:
+        """The best ways on, as many as are shown of them, and what is said of how many there are."""
         shown = self.browser.script(BEST)
         rows = [best_row(line, way) for way in ways[: len(shown)]]
+        self.tally.holds(f"{what}: some are shown", shown)
         self.same(f"{what}: the best", shown, rows)
-        self.same(f"{what}: how many", self.browser.text("best-note"), f"{counted(len(ways), 'row')}.")
+        self.same(f"{what}: how many", self.browser.text("best-note"), note)
 
-    def listed(self, what: str, wanted: tuple[str, dict[str, list[list[object]]]]) -> None:
-        """The list that is open: what is said of it, and each group with its rows."""
+    def cases(self, what: str, card: str, cases: list[list[str]]) -> None:
+        """The chips of cases, each with how many rows have it: the nearest first."""
+        counts = Counter(each for some in cases for each in dict.fromkeys(some))
+        nearest = sorted(counts.items(), key=lambda it: int(it[0][0]) + int(it[0][2:-1]))
+        self.same(
+            f"{what}: the cases", self.browser.script(CASES % card), [[case, f"{count:,}"] for case, count in nearest]
+        )
+
+    def listed(self, what: str, wanted: Listed) -> None:
+        """The list that is open: what is said of it, each group with its rows, and the cases that choose among them."""
         note, groups = self.browser.script(LIST)
-        self.same(f"{what}: the note", note, wanted[0])
-        self.same(f"{what}: the headings", [name for name, _ in groups], list(wanted[1]))
-        for (name, rows), own in zip(groups, wanted[1].values()):
+        self.same(f"{what}: the note", note, wanted.note)
+        self.same(f"{what}: the headings", [name for name, _ in groups], list(wanted.groups))
+        for (name, rows), own in zip(groups, wanted.groups.values()):
             self.same(f"{what}: {name}", rows, own)
+        self.cases(what, "list", wanted.cases)
 
 
 def in_parts(label: str, length: str, words: str) -> list[str]:

@@ -255,11 +255,17 @@ def position(scramble: str, made: Moves) -> Position:
     return Position(scramble, *made)
 
 
+def spoken(moves: str) -> str:
+    """Moves as they are said."""
+    return moves.replace("'", " prime").replace("(", "on the inverse side ").replace(")", "")
+
+
 class Listed(NamedTuple):
-    """A list of a step's solutions as it is shown: its note, and its groups, each with its heading and rows."""
+    """A list of a step's solutions as it is shown: its note, its groups, each with its heading and rows, and the cases by which rows are chosen."""
 
     note: str
     groups: dict[str, list[list[object]]]
+    cases: list[list[str]]
 
 
 def listed(line: Line, step: str, side: str, slack: int) -> Listed:
@@ -272,20 +278,32 @@ def listed(line: Line, step: str, side: str, slack: int) -> Listed:
 def grouped(line: Line, step: str, rows: list[Moves], count: int) -> Listed:
     """Rows by their length, all moves with them and their trigger, in the order in which each group comes first."""
     groups: dict[str, list[list[object]]] = {}
-    for moves in rows:
+    cases = [cases_of_row(line, step, moves) for moves in rows]
+    for moves, own in zip(rows, cases):
         length = counted(len(bracketed(moves).split()), "move")
         total = f", {line.and_then(moves).at.in_all()} in all" if line.steps else ""
-        case = trigger(line.at, moves, step[2:4]) if step.startswith("dr") else ""
-        groups.setdefault(length + total + (f", trigger from {case}" if case else ""), []).append(
-            row_of(line, step, moves)
-        )
-    sentences = [counted(count, "solution")] + (
-        [f"{counted(len(rows), 'row')}: twins share one"] if count > len(rows) else []
-    )
+        last = f", trigger from {own[0]}" if step.startswith("dr") and own else ""
+        groups.setdefault(length + total + last, []).append(row_of(line, step, moves))
+    sentences = [counted(count, "solution")]
+    if count > len(rows):
+        sentences.append(f"{counted(len(rows), 'row')}: twins share one")
     if len(rows) > MOST_SHOWN:
         sentences.append(f"The first {MOST_SHOWN} are shown: type moves to narrow the list")
     headed = {f"{name}: {counted(len(each), 'row')}": each for name, each in groups.items()}
-    return Listed(" ".join(f"{sentence}." for sentence in sentences), first_of(headed, MOST_SHOWN))
+    return Listed(" ".join(f"{sentence}." for sentence in sentences), first_of(headed, MOST_SHOWN), cases)
+
+
+def cases_of_row(line: Line, step: str, moves: Moves) -> list[str]:
+    """By which cases a row is chosen: of a reduction that of its trigger, if it has one, and of an orientation those after it."""
+    if step.startswith("dr"):
+        return [case for case in (trigger(line.at, moves, step[2:4]),) if case]
+    effect = effects_by(line.at, moves)[-1]
+    return [case_of(effect, axis) for axis in axes_after(step)]
+
+
+def axes_after(step: str) -> list[str]:
+    """The axes of the reductions that may follow an orientation."""
+    return [each[2:4] for each in TITLES if each.endswith(f"-{step}")]
 
 
 def first_of(groups: dict[str, list[list[object]]], most: int) -> dict[str, list[list[object]]]:
@@ -300,10 +318,7 @@ def first_of(groups: dict[str, list[list[object]]], most: int) -> dict[str, list
 
 def row_of(line: Line, step: str, moves: Moves) -> list[object]:
     """A row: its moves, its twins, the cases after an orientation, and those that a reduction passes."""
-    after: list[str] = []
-    if step.startswith("eo"):
-        effect = effects_by(line.at, moves)[-1]
-        axes = [each[2:4] for each in TITLES if each.startswith("dr") and each.endswith(step)]
-        after = [f"{AXES[axis]} {case_of(effect, axis)}" for axis in axes]
+    cases = cases_of_row(line, step, moves)
+    after = [f"{AXES[axis]} {case}" for axis, case in zip(axes_after(step), cases)]
     way = passed(line.at, moves, step[2:4]) if step.startswith("dr") else []
     return [bracketed(moves), twins_said(step, moves), after, way]

@@ -23,6 +23,11 @@ class Way(NamedTuple):
     dr: tuple[str, str]
 
     @property
+    def rank(self) -> tuple[int, ...]:
+        """What puts rows in order: all moves, those of the first step, what its case counts, and its axis."""
+        return self.total, self.length, int(self.case[0]) + int(self.case[2:-1]), list(AXES).index(self.axis)
+
+    @property
     def step(self) -> str:
         """The name of its reduction."""
         return f"dr{self.reduction}-eo{self.axis}"
@@ -87,19 +92,19 @@ class Model:
         self.asked: list[str] = []
         self.known: dict[str, list[Way]] = {}
 
-    def ask(self, scramble: str, normal: str = "", inverse: str = "") -> str:
+    def ask(self, scramble: str, normal: str = "", inverse: str = "", slack: int = 0) -> str:
         """Has it look for all ways on, and waits for none."""
         lines = Position(scramble, normal, inverse).lines
-        question = " ; ".join(["0", lines["normal"], normal, inverse, "100000", "1000"])
+        question = " ; ".join([str(slack), lines["normal"], normal, inverse, "100000", "1000"])
         if question not in [*self.asked, *self.known] and self.process.stdin:
             self.asked.append(question)
             self.process.stdin.write(question + "\n")
             self.process.stdin.flush()
         return question
 
-    def ways(self, scramble: str, normal: str = "", inverse: str = "") -> list[Way]:
+    def ways(self, scramble: str, normal: str = "", inverse: str = "", slack: int = 0) -> list[Way]:
         """All ways on."""
-        question = self.ask(scramble, normal, inverse)
+        question = self.ask(scramble, normal, inverse, slack)
         while question not in self.known and self.process.stdout:
             rows = iter(self.process.stdout.readline, "\n")
             self.known[self.asked.pop(0)] = [way_of(row) for row in rows]
