@@ -174,12 +174,22 @@ class Mean(Beside):
         self.same("the heading of a list", self.browser.text("solutions-heading"), words)
         self.listed(f"{words}, {slack} longer", listed(self.sheet.line, step, side, slack))
 
+    def one_listed(self) -> str:
+        """The moves of one of the rows that are listed."""
+        keys: list[str] = self.browser.script("return all('#solutions-groups .take').map((each) => each.dataset.key)")
+        return self.draw.choice(keys)
+
     def take_listed(self) -> None:
         """One of the rows that are listed."""
-        keys = self.browser.script("return all('#solutions-groups .take').map((each) => each.dataset.key)")
-        key = self.draw.choice(keys)
+        key = self.one_listed()
         self.press(f'#solutions-groups .take[data-key="{key}"]')
         self.takes(moves_of(key))
+
+    def star_listed(self, note: str) -> None:
+        """One of the rows that are listed, which is kept as it is."""
+        key = self.one_listed()
+        self.press(f'#solutions-groups li:has(.take[data-key="{key}"]) .star')
+        self.note(Kept(self.sheet.line.and_then(moves_of(key)), "", note))
 
     def keep(self, note: str) -> None:
         """The line so far, with a note."""

@@ -12,9 +12,11 @@ from browser import Browser
 from mean import Mean
 from scrambles import NO_CLIPBOARD, PASTE_ALL
 from tally import Tally
+from told import Moves
 from wanted import SIDES
 from ways import compiled
 
+ORIENTATIONS = ("eofb", "eorl", "eoud")
 # so many values are compared at the least
 LEAST_VALUES = 600
 
@@ -26,7 +28,7 @@ def by_the_best(mean: Mean) -> None:
     mean.keep("by the best")
     mean.copy()
     mean.clear()
-    step, side = mean.draw.choice(["eofb", "eorl", "eoud"]), mean.draw.choice(SIDES)
+    step, side = mean.draw.choice(ORIENTATIONS), mean.draw.choice(SIDES)
     mean.open_list(step, side, 1)
     mean.press("#solutions-close")
     mean.open_list(step, side, 0)
@@ -43,6 +45,9 @@ def by_stars(mean: Mean) -> None:
     """Lines that are kept by their stars, with the reduction that follows, of which one is gone on with; all are compared."""
     mean.choose_case()
     mean.star_best("a star")
+    mean.open_list(mean.draw.choice(ORIENTATIONS), mean.draw.choice(SIDES), 0)
+    mean.star_listed("only an EO")
+    mean.press("#solutions-close")
     mean.go_on(mean.star_best("better?"))
     mean.take_listed()
     mean.keep("gone on with")
@@ -50,13 +55,20 @@ def by_stars(mean: Mean) -> None:
     mean.copy()
 
 
+def halved(moves: str) -> Moves:
+    """Moves in two, of which the last of the one and the first of the other are one move: so they count one less together."""
+    first, *rest = moves.split() or [""]
+    one, other = {"": ("2", "'"), "2": ("", ""), "'": ("2", "")}[first[1:]]
+    return (first[0] + one, " ".join([first[0] + other, *rest])) if first else ("", "")
+
+
 def by_typing(mean: Mean) -> None:
-    """A line of moves by hand: an orientation in two steps, and its reduction, over both sides or on one."""
+    """A line of moves by hand: an orientation in two steps that share a move, and its reduction, over both sides or on one."""
     if not mean.is_phone:
         mean.longer()
     way = mean.draw.choice(mean.ways[:20])
-    normal, inverse = (moves.split() for moves in way.eo)
-    first, rest = (" ".join(normal[:1]), " ".join(inverse[:1])), (" ".join(normal[1:]), " ".join(inverse[1:]))
+    halves = [halved(moves) for moves in way.eo]
+    first, rest = ((halves[0][at], halves[1][at]) for at in (0, 1))
     for step in (first, rest, way.dr):
         if any(step):
             mean.by_hand(step)
