@@ -1,11 +1,13 @@
 """A teacher's page: why a piece is good or bad, moves that are covered until they are asked for, and nets for a projector."""
+import base64
 import re
 
 from browser import Browser, Keys
-from looks import SCRAMBLE
+from looks import KEPT, SCRAMBLE, is_legible
+from sighted import MARKED, marked
 from steps import EXAMPLE
 from tally import Tally
-from wanted import Position
+from wanted import SIDES, Position
 
 STICKERS = "all('#net-normal .sticker')"
 BAD = f"return [...{STICKERS}].flatMap((each, at) => each.matches('.bad') ? [at] : [])"
@@ -204,3 +206,71 @@ def shows_a_reduction(tally: Tally, browser: Browser) -> None:
     tally.equal("beside the page the line stands by itself", browser.text("shown-line"), "")
     browser.press(Keys.ARROW_LEFT)
     tally.equal("and has no keys", browser.text("played"), f"5 of 10: ({moves[5]})")
+
+
+FIRST, SECOND = "B D R F2 B D", "R B' D2 R"
+TAUGHT = SCRAMBLE + f"&steps=inverse.{FIRST.replace(' ', '_')}~normal.R_B-_D2_R"
+
+
+def looks_of_the_line() -> list[list[object]]:
+    """The looks at the line, one move after another: what is told of each net and marked in it, and the moves that are made."""
+    moves = [(f"({turn})", "EO U/D") for turn in FIRST.split()] + [(turn, "DR F/B") for turn in SECOND.split()]
+    looks: list[list[object]] = []
+    for count in range(len(moves) + 1):
+        own = Position(EXAMPLE, " ".join(SECOND.split()[: max(0, count - 6)]), " ".join(FIRST.split()[:count]))
+        said = f"{count} of 10" + (f": {moves[count - 1][0]}" if count else "")
+        # a step that is done is looked at by its own goal, and then by that of the next one
+        goals = dict.fromkeys(goal for _, goal in moves[max(0, count - 1) : count + 1])
+        looks += [[said, [marked(own.lines[side], goal) for side in SIDES]] for goal in goals]
+    return looks
+
+
+def leads_by_keys(tally: Tally, browser: Browser) -> None:
+    """In a dark room arrow keys lead through all of a line and back, from case to case, and all is legible."""
+    browser.media(prefers_color_scheme="dark")
+    browser.resize(1440, 900)
+    browser.open(TAUGHT)
+    browser.wait_best()
+    browser.choose("marks", "follow")
+    browser.click("#cube-large")
+    looks = looks_of_the_line()
+    shown = f"return [part('played').textContent, (() => {{ {MARKED} }})()]"
+    for key, ways in ((Keys.ARROW_LEFT, looks[-2::-1]), (Keys.ARROW_RIGHT, looks[1:])):
+        for wanted in ways:
+            browser.press(key)
+            tally.holds(f"{key}: {wanted[0]}, {browser.look(shown)} for {wanted}", browser.comes(shown, wanted))
+    tally.equal("all looks", len(looks), 12)
+    browser.press(Keys.ARROW_LEFT)
+    browser.comes(shown, looks[-2])
+    is_legible(tally, browser, "large nets in the dark")
+    browser.press(Keys.ESCAPE)
+    browser.media(prefers_color_scheme="light")
+
+
+def pages_of(browser: Browser) -> int:
+    """How many pages of A4 are printed."""
+    printed = browser.command("Page.printToPDF", paperWidth=8.27, paperHeight=11.69)["data"]
+    return len(re.findall(rb"/Type\s*/Page\b", base64.b64decode(printed)))
+
+
+def prints(tally: Tally, browser: Browser) -> None:
+    """A handout of a line has one page, and says nothing twice; so has one of large nets, which shows only them."""
+    browser.resize()
+    browser.open(TAUGHT)
+    browser.wait_best()
+    tally.equal("a line has one page", pages_of(browser), 1)
+    browser.media("print")
+    blocks = browser.script("return seen('#whole dd, #line-list li .moves').map((each) => each.innerText.trim())")
+    tally.equal(
+        "what stands on it twice", [each for each in blocks if each and (blocks.count(each) > 1 or "//" in each)], []
+    )
+    browser.media(prefers_color_scheme="light")
+    browser.open(TAUGHT + KEPT)
+    browser.wait_best()
+    browser.click("#cube-large")
+    tally.equal("large nets have one page", pages_of(browser), 1)
+    browser.media("print")
+    cards = "return seen('header, footer, .card').map((each) => each.id || each.localName)"
+    tally.equal("with nothing else", browser.script(cards), ["cube"])
+    browser.media(prefers_color_scheme="light")
+    browser.press(Keys.ESCAPE)

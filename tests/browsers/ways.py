@@ -1,5 +1,6 @@
-"""The best ways on as the independent model has them, tests/model/ways.cpp, of the questions in ways.txt: each stands before its rows, and ends with
-an empty line. `c++ -O2 -o ways tests/model/ways.cpp && grep ';' tests/browsers/ways.txt | ./ways` writes the rows anew."""
+"""The best ways on as the independent model has them, tests/model/ways.cpp: of the questions in ways.txt each stands before its rows, and ends with
+an empty line. `c++ -O2 -o ways tests/model/ways.cpp && sed -n 's/.*;.*/& ; 100000 ; 1000/p' tests/browsers/ways.txt | ./ways` writes the rows anew."""
+import subprocess
 from pathlib import Path
 from typing import NamedTuple
 
@@ -20,6 +21,11 @@ class Way(NamedTuple):
     reduction: str
     eo: tuple[str, str]
     dr: tuple[str, str]
+
+    @property
+    def rank(self) -> tuple[int, ...]:
+        """What puts rows in order: all moves, those of the first step, what its case counts, and its axis."""
+        return self.total, self.length, int(self.case[0]) + int(self.case[2:-1]), list(AXES).index(self.axis)
 
     @property
     def step(self) -> str:
@@ -76,3 +82,41 @@ def firsts_of(found: list[Way]) -> list[str]:
 def title_of(way: Way) -> str:
     """What the way on reaches by its reduction."""
     return TITLES[way.step].split(" after")[0]
+
+
+class Model:
+    """The model at work, which answers one question after another."""
+
+    def __init__(self, program: str) -> None:
+        self.process = subprocess.Popen([program], stdin=subprocess.PIPE, stdout=subprocess.PIPE, text=True)
+        self.asked: list[str] = []
+        self.known: dict[str, list[Way]] = {}
+
+    def ask(self, scramble: str, normal: str = "", inverse: str = "", slack: int = 0) -> str:
+        """Has it look for all ways on, and waits for none."""
+        lines = Position(scramble, normal, inverse).lines
+        question = " ; ".join([str(slack), lines["normal"], normal, inverse, "100000", "1000"])
+        if question not in [*self.asked, *self.known] and self.process.stdin:
+            self.asked.append(question)
+            self.process.stdin.write(question + "\n")
+            self.process.stdin.flush()
+        return question
+
+    def ways(self, scramble: str, normal: str = "", inverse: str = "", slack: int = 0) -> list[Way]:
+        """All ways on."""
+        question = self.ask(scramble, normal, inverse, slack)
+        while question not in self.known and self.process.stdout:
+            rows = iter(self.process.stdout.readline, "\n")
+            self.known[self.asked.pop(0)] = [way_of(row) for row in rows]
+        return self.known[question]
+
+    def end(self) -> None:
+        """Ends it."""
+        self.process.communicate()
+
+
+def compiled(room: str) -> str:
+    """The model as a program, in this folder."""
+    program, source = f"{room}/ways", Path(__file__).parent.parent / "model/ways.cpp"
+    subprocess.run(["g++", "-std=c++17", "-O3", "-o", program, source], check=True)
+    return program
