@@ -222,6 +222,7 @@ impl AttemptCorners {
     }
 
     /// Works out anew what the steps from each one on do, of the first so many, if some stand in brackets.
+    #[inline(never)]
     pub fn renew(&self, tails: &mut [Corners; 9], set: StepSet, count: usize)
         requires { IfSome self.now.steps (λ steps. count ≤ length steps.items) }
         ensures { (text bounds : List ℕ) → IfSome self.now.steps (λ steps. AreSteps text bounds steps.items →
