@@ -135,6 +135,7 @@ def doubts(tally: Tally) -> None:
         "R U F\n\nF' R' *\n* = U' D D'": ("insertion", 3, 7),
         "R U F\n\nF' R' // Skelett": ("insertion", 3, 10),
         "R U F\n\nAnna: F' U' R'\nBert: F' U' D": ("a part", 3, 7),
+        "R U F D L B U2 R2\n\n\u2191 R2 U2\n\u2193 R U\n\u2191 B' L'\n\u2193 F D": ("a part", 4, 3),
     }
     for text, wanted in texts.items():
         (told,) = [it.doubt for it in nissy.check_attempts(text)]

@@ -1,9 +1,9 @@
 -- What the steps of an attempt from each one on do to the corners, if some of them stand in brackets.
-use Rattle.std.proofs.Common.{◌≡◌, ◌∙◌, ◌≢◌, ℕ, suc, ◌+◌, ◌-◌, ◌<◌, ◌≤◌, ◌⊎◌, Bool, true, false, not, List, [], ◌∷◌, ◌++◌, length, get_or, set, replicate, Result, Ok, Err, refl, sym, ap, subst, arith, inl, inr, append_assoc, append-nil}
+use Rattle.std.proofs.Common.{◌≡◌, ◌∙◌, ◌≢◌, ℕ, suc, ◌+◌, ◌-◌, ◌<◌, ◌≤◌, ◌⊎◌, Bool, true, false, not, List, [], ◌∷◌, ◌++◌, length, get_or, set, Result, Ok, Err, refl, sym, ap, subst, arith, inl, inr, append_assoc, append-nil}
 use Rattle.std.specs.Prelude.{flat_map}
 use Rattle.std.specs.List.{range_with_len}
 use Rattle.std.proofs.lemmas.Bool.{cases_eq}
-use Rattle.std.proofs.lemmas.List.{get_or-set_same, get_or-set_other, get_or-replicate}
+use Rattle.std.proofs.lemmas.List.{get_or-set_same, get_or-set_other}
 use Rattle.niss_moves.specs.Effects.{inverse}
 use Rattle.niss_moves.specs.Line.{Moves, joined_moves}
 use Rattle.niss_moves.specs.Reader.{read_line}
@@ -101,11 +101,12 @@ line_end text bounds chosen step l =
     ap (λ n. flat_map (step_with text bounds chosen) (range_with_len step n)) none
 
 -- after the last step there is none
-pub tails_begin : (text bounds : List ℕ) (chosen : StepSet) → length bounds ≤ 9 →
-    AreTails text bounds chosen (length bounds - 1) (replicate 9 (record { to = home }))
-tails_begin text bounds chosen few step none after within =
-    let at_home : get_or (replicate 9 (record { to = home })) step none ≡ record { to = home } =
-    get_or-replicate 9 step (record { to = home }) none (omega (arith, within, few)) in
+pub tails_begin : (text bounds : List ℕ) (chosen : StepSet) (tails : List Corners) → length bounds - 1 < length tails →
+    AreTails text bounds chosen (length bounds - 1) (set tails (length bounds - 1) (record { to = home }))
+tails_begin text bounds chosen tails room step none after within =
+    let here : length bounds - 1 ≡ step = omega (arith, after, within) in
+    let at_home : get_or (set tails (length bounds - 1) (record { to = home })) step none ≡ record { to = home } =
+    ap (λ k. get_or (set tails (length bounds - 1) (record { to = home })) k none) (sym here) ∙ get_or-set_same tails (length bounds - 1) (record { to = home }) none room in
     let tail : IsTail (line_from text bounds chosen step) home = subst (λ (bytes : List ℕ). IsTail bytes home) (sym (line_end text bounds chosen step after)) tail_of_none in
     subst (λ (c : Corners). IsTail (line_from text bounds chosen step) c.to) (sym at_home) tail
 

@@ -112,7 +112,8 @@ pub fn least_set(
     ensures { IsLeast (length bounds.now - 1) (solves_with (Ok scramble.now) text.now bounds.now) result }
 {
     let steps = bounds.len() - 1;
-    let mut tails = [Corners::HOME; 9];
+    let mut tails = [Corners::NOWHERE; 9];
+    tails[steps] = Corners::HOME;
     corners.renew(&mut tails, StepSet::EMPTY, steps);
     for number in 1..count_of_sets(steps) {
         let set = StepSet { number };

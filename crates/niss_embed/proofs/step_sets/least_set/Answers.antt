@@ -1,5 +1,7 @@
-use Rattle.std.proofs.Common.{◌≡◌, ◌∙◌, ◌+◌, ◌-◌, ◌<◌, ℕ, List, length, false, Ok, replicate, sym, subst, arith}
+use Rattle.std.proofs.Common.{◌≡◌, ◌∙◌, ◌+◌, ◌-◌, ◌<◌, ℕ, List, length, false, Ok, replicate, set, sym, subst, arith}
 use Rattle.std.specs.Prelude.{IfSome}
+use Rattle.std.proofs.lemmas.List.{length-replicate}
+use Rattle.niss_embed.specs.declared.corners.Corners.{Corners}
 use Rattle.niss_embed.specs.Corners.{AreSteps, AreTails, IsTail, home}
 use Rattle.niss_embed.specs.Parts.{line_with, solves_with}
 use Rattle.niss_embed.proofs.TailLemmas.{tails_begin}
@@ -11,11 +13,15 @@ pub loop-number-init : goal.loop-number-init
 loop-number-init c =
     let text : List ℕ = c.args.text.now in
     let bounds : List ℕ = c.args.bounds.now in
+    let one : Corners = record { to = replicate 8 0 } in
+    let nowhere : List Corners = replicate 9 one in
+    let nine : length nowhere ≡ 9 = length-replicate 9 one in
+    let begun : List Corners = set nowhere (length bounds - 1) (record { to = home }) in
     record {
       tails = if_some (λ steps. AreSteps text bounds steps.items) (λ steps. AreSteps text bounds steps.items)
-          (λ steps. AreSteps text bounds steps.items → AreTails text bounds (of 0) (length bounds - 1) (replicate 9 (record { to = home })) → AreTails text bounds (of 0) 0 c.renew.new.tails)
+          (λ steps. AreSteps text bounds steps.items → AreTails text bounds (of 0) (length bounds - 1) begun → AreTails text bounds (of 0) 0 c.renew.new.tails)
           (λ steps. AreTails text bounds (of 0) 0 c.renew.new.tails) c.args.corners.now.steps
-          (λ steps are again renewed. renewed are (tails_begin text bounds (of 0) c.requires.some.1)) c.requires.corners.are_steps c.requires.corners.are_steps
+          (λ steps are again renewed. renewed are (tails_begin text bounds (of 0) nowhere (omega (arith, c.requires.some.0, c.requires.some.1, nine)))) c.requires.corners.are_steps c.requires.corners.are_steps
           (c.renew.ensures text bounds);
       none = λ other some less. absurd (omega (arith, some, less));
     }
