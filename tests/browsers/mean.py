@@ -48,9 +48,9 @@ class Mean(Beside):
         return self.sheet.ways(self.sheet.line)
 
     def press(self, selector: str) -> None:
-        """A click, or on a phone a finger, and the answers."""
+        """A click, or on a phone a finger, on what one scrolls to, and the answers."""
+        self.browser.script(INTO_VIEW, selector)
         if self.is_phone:
-            self.browser.script(INTO_VIEW, selector)
             tap(self.browser, selector)
         else:
             self.browser.click(selector)
