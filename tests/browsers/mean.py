@@ -192,9 +192,10 @@ class Mean(Beside):
         self.note(Kept(self.sheet.line.and_then(moves_of(key)), "", note))
 
     def keep(self, note: str) -> None:
-        """The line so far, with a note."""
-        self.press("#keep-line")
-        self.note(Kept(self.sheet.line, "", note))
+        """The line so far, with a note, unless it is drawn a second time: then the star would take it away."""
+        if not any(each.line == self.sheet.line for each in self.sheet.kept):
+            self.press("#keep-line")
+            self.note(Kept(self.sheet.line, "", note))
 
     def note(self, kept: Kept) -> None:
         """A line that was kept by now, and its note."""

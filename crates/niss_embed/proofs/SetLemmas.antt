@@ -1,6 +1,6 @@
 -- Sets of steps by their numbers, the lines in which they stand in brackets, and the first set that solves.
-use Rattle.std.proofs.Common.{◌≡◌, ◌∙◌, ℕ, zero, suc, ◌+◌, ◌-◌, ◌*◌, ◌^◌, ◌<◌, ◌≤◌, ◌⊎◌, ◌==◌, Bool, true, false, Some, None, Option, List, [], ◌∷◌, ◌++◌, length, get_or, map, refl, sym, ap, subst, arith, inl, inr, append-nil}
-use Rattle.std.specs.Prelude.{flat_map, slice_index, nat_lt, IfSome}
+use Rattle.std.proofs.Common.{◌≡◌, ◌∙◌, ℕ, zero, suc, ◌+◌, ◌-◌, ◌*◌, ◌^◌, ◌<◌, ◌≤◌, ◌⊎◌, ◌==◌, Bool, true, false, Some, None, Option, List, [], ◌∷◌, ◌++◌, length, get_or, refl, sym, ap, subst, arith, inl, inr, append-nil}
+use Rattle.std.specs.Prelude.{flat_map, nat_lt, IfSome}
 use Rattle.std.specs.Int.{bit_at}
 unfoldable use Rattle.std.specs.Int.Count.{count_trailing_zeros}
 use Rattle.std.specs.List.{range_with_len}
@@ -8,13 +8,12 @@ use Rattle.std.proofs.Math.Nat.{pow-succ'}
 use Rattle.std.proofs.Math.Pow.{pow_mono}
 use Rattle.std.proofs.lemmas.Bool.{cases_lt, lt-ltb}
 use Rattle.std.proofs.lemmas.Grind.{flat_map-append}
-use Rattle.niss_moves.proofs.CallerLemmas.{Fact, Below, Equal, Both, When, Numbers, Holds, holds}
+use Rattle.niss_moves.proofs.CallerLemmas.{Fact, Below, Equal, Both, When, Numbers, holds}
 use Rattle.niss_search.proofs.CallerLemmas.{range_push}
 use Rattle.niss_embed.specs.declared.corners.Corners.{Corners}
-use Rattle.niss_embed.specs.declared.parts.Part.{Part}
 use Rattle.niss_embed.specs.declared.step_sets.StepSet.{StepSet}
 use Rattle.niss_embed.specs.Corners.{IsTail, AreTails, line_from}
-use Rattle.niss_embed.specs.Parts.{has, first_in, last_in, step_with, line_with, steps_line, in_brackets_if, AreSome, IsLeast}
+use Rattle.niss_embed.specs.Parts.{first_in, last_in, step_with, line_with, steps_line, in_brackets_if, IsLeast}
 
 abbrev pub of : ℕ → StepSet
 of n = record { number = n }

@@ -1,5 +1,5 @@
 -- What the steps of an attempt from each one on do to the corners, if some of them stand in brackets.
-use Rattle.std.proofs.Common.{◌≡◌, ◌∙◌, ◌≢◌, ℕ, suc, ◌+◌, ◌-◌, ◌<◌, ◌≤◌, ◌⊎◌, ◌==◌, Bool, true, false, not, List, [], ◌∷◌, ◌++◌, length, get_or, set, replicate, Result, Ok, Err, refl, sym, ap, subst, arith, inl, inr, append_assoc, append-nil}
+use Rattle.std.proofs.Common.{◌≡◌, ◌∙◌, ◌≢◌, ℕ, suc, ◌+◌, ◌-◌, ◌<◌, ◌≤◌, ◌⊎◌, Bool, true, false, not, List, [], ◌∷◌, ◌++◌, length, get_or, set, replicate, Result, Ok, Err, refl, sym, ap, subst, arith, inl, inr, append_assoc, append-nil}
 use Rattle.std.specs.Prelude.{flat_map}
 use Rattle.std.specs.List.{range_with_len}
 use Rattle.std.proofs.lemmas.Bool.{cases_eq}
@@ -14,7 +14,7 @@ use Rattle.niss_moves.proofs.CallerLemmas.{inverse-append}
 use Rattle.niss_embed.specs.declared.corners.Corners.{Corners}
 use Rattle.niss_embed.specs.declared.step_corners.StepCorners.{StepCorners}
 use Rattle.niss_embed.specs.declared.step_sets.StepSet.{StepSet}
-use Rattle.niss_embed.specs.Corners.{Brings, Reads, IsTail, EndsNone, AreSteps, AreTails, has_bracket, home, line_from}
+use Rattle.niss_embed.specs.Corners.{Brings, Reads, IsTail, AreSteps, AreTails, has_bracket, home, line_from}
 use Rattle.niss_embed.specs.Parts.{has, step_with, steps_line, in_brackets_if, solves_line}
 use Rattle.niss_embed.proofs.BracketLemmas.{nested_ends_none, more_ends_none}
 use Rattle.niss_embed.proofs.CornerLemmas.{by_nothing}

@@ -1,5 +1,5 @@
 -- Where moves bring the corners of the cube, by numbers of their places; and what parts of a line do to the corners.
-use Rattle.std.specs.Prelude.{◌≡◌, ℕ, ◌+◌, ◌-◌, ◌*◌, ◌<◌, ◌≤◌, ◌⊎◌, ◌==◌, Bool, true, false, not, List, [], ◌∷◌, ◌++◌, length, map, flat_map, IfSome, get_or, slice_index, slice_range}
+use Rattle.std.specs.Prelude.{◌≡◌, ℕ, ◌+◌, ◌-◌, ◌*◌, ◌<◌, ◌≤◌, ◌⊎◌, ◌==◌, Bool, true, not, List, [], ◌∷◌, ◌++◌, length, map, flat_map, IfSome, get_or, slice_index, slice_range}
 use Rattle.std.specs.List.{list_any, range_with_len}
 use Rattle.niss_moves.specs.Effects.{effect, inverse}
 use Rattle.niss_moves.specs.Line.{Spells, Moves, joined_moves}

@@ -155,6 +155,7 @@ pub fn feed(reader: &mut LineReader, steps: &[u8], brackets: Brackets)
 }
 
 /// Whether the line that was read has moves, and solves a scramble.
+#[inline(never)]
 pub fn solves_so(scramble: &Niss, reader: &mut LineReader) -> bool
     ensures { (line : List ℕ) → IsFed reader.old line → result ≡ solves_line (Ok scramble.now) (read_line line) }
 {

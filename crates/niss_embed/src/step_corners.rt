@@ -1,10 +1,8 @@
 //! What steps of an attempt do to the corners of the cube.
-ghost use Rattle.std.specs.Prelude.{◌≡◌, ◌<◌, ◌≤◌, ℕ, false, List, [], ◌++◌, Ok, map, IfSome, IsTrue, length};
+ghost use Rattle.std.specs.Prelude.{◌≡◌, ◌<◌, ◌≤◌, ℕ, false, List, [], ◌++◌, Ok, map, IfSome, length};
 ghost use Rattle.niss_moves.specs.Effects.{inverse};
 ghost use Rattle.niss_moves.specs.Line.{Moves, joined_moves};
 ghost use Rattle.niss_moves.specs.Reader.{read_line};
-ghost use Rattle.niss_moves.specs.Solving.{IsRotated};
-ghost use Rattle.niss_moves.specs.declared.token.Token.{Token};
 ghost use Rattle.niss_embed.specs.Corners.{Brings, Reads, AreBounds, AreSteps, IsAround, IsAroundPart, IsAttempt, IsTail, AreTails};
 ghost use Rattle.niss_embed.specs.Parts.{read_byte, arranged, solves_line, part, steps_line, in_brackets_if};
 ghost use Rattle.niss_embed.specs.declared.parts.How.TheVariants.{Alone};
@@ -224,6 +222,7 @@ impl AttemptCorners {
     }
 
     /// Works out anew what the steps from each one on do, of the first so many, if some stand in brackets.
+    #[inline(never)]
     pub fn renew(&self, tails: &mut [Corners; 9], set: StepSet, count: usize)
         requires { IfSome self.now.steps (λ steps. count ≤ length steps.items) }
         ensures { (text bounds : List ℕ) → IfSome self.now.steps (λ steps. AreSteps text bounds steps.items →

@@ -1,10 +1,9 @@
 //! Steps of an attempt that, each put in brackets of its own, have it solve its scramble.
-ghost use Rattle.std.specs.Prelude.{◌≡◌, ◌<◌, ◌≤◌, ◌+◌, ◌-◌, ◌*◌, ◌^◌, ◌++◌, ℕ, List, [], Ok, length};
+ghost use Rattle.std.specs.Prelude.{◌≡◌, ◌<◌, ◌≤◌, ◌+◌, ◌-◌, ◌^◌, ◌++◌, ℕ, List, [], Ok, length, map};
 ghost use Rattle.niss_moves.specs.Reader.{IsFed};
 ghost use Rattle.niss_embed.specs.Corners.{IsAttempt};
 ghost use Rattle.niss_embed.specs.Parts.{IsLeast, has, first_in, last_in, in_brackets_if, line_with, solves_with, read_byte};
 ghost use Rattle.niss_embed.specs.declared.parts.Brackets.TheVariants.{Kept};
-ghost use Rattle.std.specs.Prelude.{map};
 
 use crate::corners::Corners;
 use crate::parts::{Brackets, feed, solves_so};

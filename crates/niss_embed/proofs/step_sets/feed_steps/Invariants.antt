@@ -1,4 +1,4 @@
-use Rattle.std.proofs.Common.{ℕ, ◌*◌, ◌≤◌}
+use Rattle.std.proofs.Common.{◌*◌, ◌≤◌}
 use Rattle.std.specs.Prelude.{flat_map}
 use Rattle.std.specs.List.{range_with_len}
 use Rattle.niss_moves.specs.Reader.{IsFed}

@@ -1,4 +1,4 @@
-use Rattle.std.proofs.Common.{◌≡◌, ◌∙◌, ◌+◌, ◌-◌, ◌<◌, ◌≤◌, ℕ, List, length, false, Ok, replicate, sym, subst, arith}
+use Rattle.std.proofs.Common.{◌≡◌, ◌∙◌, ◌+◌, ◌-◌, ◌<◌, ℕ, List, length, false, Ok, replicate, sym, subst, arith}
 use Rattle.std.specs.Prelude.{IfSome}
 use Rattle.niss_embed.specs.Corners.{AreSteps, AreTails, IsTail, home}
 use Rattle.niss_embed.specs.Parts.{line_with, solves_with}

@@ -1,4 +1,3 @@
-use Rattle.std.proofs.Common.{arith}
 use Rattle.niss_embed.proofs.SetLemmas.{last_is, last_few}
 use Rattle.niss_embed.proofs.step_sets.StepSet.last.Goals as goal
 
