@@ -41,7 +41,7 @@ SIDES = "Inverse|Reverse|Inverted|Inversed|Inverso|Invers|Other side|Second side
 )
 COMMENTS = "on inverse|DR (inv)|NISS|premoves|inverse|reverse|on the inverse|DR on inv|EOinv".split("|")
 # how many are at fault or in doubt at most, of the table and of those that words make: one that is read right stays so
-MOST_TOLD, MOST_TOLD_BY_WORDS = 347, 58
+MOST_TOLD, MOST_TOLD_BY_WORDS = 355, 58
 WORDS = "F2L LL xD BLD LUL FML LS ELL SB Dry Bu DR FR EO".split()
 
 
@@ -90,7 +90,7 @@ def kinds(tally: Tally) -> None:
         verdicts[kind.name] = verdict(kind)
         tally.holds(
             f"{kind.name} isn't silently wrong: {verdicts[kind.name]}",
-            verdicts[kind.name] not in ("silent", "right, in doubt"),
+            verdicts[kind.name] not in ("silent", "none", "right, in doubt"),
         )
     of_rows = sum(verdicts[kind.name] != "right" for kind in listed())
     by_words = sum(found != "right" for found in verdicts.values()) - of_rows
