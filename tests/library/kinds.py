@@ -40,6 +40,8 @@ SIDES = "Inverse|Reverse|Inverted|Inversed|Inverso|Invers|Other side|Second side
     "|"
 )
 COMMENTS = "on inverse|DR (inv)|NISS|premoves|inverse|reverse|on the inverse|DR on inv|EOinv".split("|")
+# how many are at fault or in doubt at most, of the table and of those that words make: one that is read right stays so
+MOST_TOLD, MOST_TOLD_BY_WORDS = 355, 58
 WORDS = "F2L LL xD BLD LUL FML LS ELL SB Dry Bu DR FR EO".split()
 
 
@@ -88,12 +90,12 @@ def kinds(tally: Tally) -> None:
         verdicts[kind.name] = verdict(kind)
         tally.holds(
             f"{kind.name} isn't silently wrong: {verdicts[kind.name]}",
-            verdicts[kind.name] not in ("silent", "right, in doubt"),
+            verdicts[kind.name] not in ("silent", "none", "right, in doubt"),
         )
-    of_table = [verdicts[kind.name] for kind in listed()]
-    # 32 of these were read right without the rules of the library, and 64 are to be
-    tally.holds(f"at least 135 of the table are right: {of_table.count('right')}", of_table.count("right") >= 135)
-    tally.holds("and most that words make", list(verdicts.values()).count("right") > 150)
+    of_rows = sum(verdicts[kind.name] != "right" for kind in listed())
+    by_words = sum(found != "right" for found in verdicts.values()) - of_rows
+    tally.holds(f"at most {MOST_TOLD} of the table are told: {of_rows}", of_rows <= MOST_TOLD)
+    tally.holds(f"and {MOST_TOLD_BY_WORDS} that words make: {by_words}", by_words <= MOST_TOLD_BY_WORDS)
 
 
 def slips(tally: Tally) -> None:
