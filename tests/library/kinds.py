@@ -40,8 +40,8 @@ SIDES = "Inverse|Reverse|Inverted|Inversed|Inverso|Invers|Other side|Second side
     "|"
 )
 COMMENTS = "on inverse|DR (inv)|NISS|premoves|inverse|reverse|on the inverse|DR on inv|EOinv".split("|")
-# how many are at fault or in doubt at most, of the table and of those that words make: one that is read right stays so
-MOST_TOLD, MOST_TOLD_BY_WORDS = 355, 58
+# how many are read right, of the table and of those that words make: what is stays so
+LEAST_RIGHT, LEAST_RIGHT_BY_WORDS = 344, 117
 WORDS = "F2L LL xD BLD LUL FML LS ELL SB Dry Bu DR FR EO".split()
 
 
@@ -92,10 +92,10 @@ def kinds(tally: Tally) -> None:
             f"{kind.name} isn't silently wrong: {verdicts[kind.name]}",
             verdicts[kind.name] not in ("silent", "none", "right, in doubt"),
         )
-    of_rows = sum(verdicts[kind.name] != "right" for kind in listed())
-    by_words = sum(found != "right" for found in verdicts.values()) - of_rows
-    tally.holds(f"at most {MOST_TOLD} of the table are told: {of_rows}", of_rows <= MOST_TOLD)
-    tally.holds(f"and {MOST_TOLD_BY_WORDS} that words make: {by_words}", by_words <= MOST_TOLD_BY_WORDS)
+    of_rows = sum(verdicts[kind.name] == "right" for kind in listed())
+    by_words = sum(found == "right" for found in verdicts.values()) - of_rows
+    tally.holds(f"at least {LEAST_RIGHT} of the table are right: {of_rows}", of_rows >= LEAST_RIGHT)
+    tally.holds(f"and {LEAST_RIGHT_BY_WORDS} that words make: {by_words}", by_words >= LEAST_RIGHT_BY_WORDS)
 
 
 def slips(tally: Tally) -> None:
