@@ -1,4 +1,4 @@
-"""The calls of tests/calls.tsv, and the texts of tests/attempts.tsv."""
+"""The calls of tests/calls.tsv, and the texts of tests/attempts.tsv and misread.tsv."""
 from pathlib import Path
 from typing import Dict, Iterator, List, NamedTuple, Optional, Tuple
 
@@ -41,10 +41,10 @@ class Kind(NamedTuple):
     wanted: List[Optional[bool]]
 
 
-def kinds() -> Iterator[Kind]:
-    """Each way of the table."""
+def kinds(table: str = "attempts.tsv") -> Iterator[Kind]:
+    """Each way of a table."""
     results: Dict[str, Optional[bool]] = {"solved": True, "unsolved": False, "none": None}
-    for line in (FOLDER / "attempts.tsv").read_text(encoding="ascii").splitlines():
+    for line in (FOLDER / table).read_text(encoding="ascii").splitlines():
         if not line.startswith("#"):
             name, text, wanted = line.split("\t")
             yield Kind(name, bytes_of(text).decode(), [results[it] for it in wanted.split(",")])

@@ -1,6 +1,6 @@
 #!/usr/bin/env python3
 """Texts in the ways that solvers write attempts, those of tests/attempts.tsv and others made of words: none may be read wrongly without a word, and
-none that is read right may be in doubt.
+none that is read right may be in doubt. Those of tests/misread.tsv are known to be.
 
     tests/library/kinds.py
 """
@@ -96,6 +96,12 @@ def kinds(tally: Tally) -> None:
     by_words = sum(found == "right" for found in verdicts.values()) - of_rows
     tally.holds(f"at least {LEAST_RIGHT} of the table are right: {of_rows}", of_rows >= LEAST_RIGHT)
     tally.holds(f"and {LEAST_RIGHT_BY_WORDS} that words make: {by_words}", by_words >= LEAST_RIGHT_BY_WORDS)
+
+
+def misread(tally: Tally) -> None:
+    """What is known to be read wrongly without a word is so still: else its row goes to the others."""
+    for kind in listed("misread.tsv"):
+        tally.holds(f"{kind.name} is misread still: {verdict(kind)}", verdict(kind) in ("silent", "none"))
 
 
 def slips(tally: Tally) -> None:
@@ -205,4 +211,4 @@ def times(tally: Tally) -> None:
 
 
 if __name__ == "__main__":
-    tried(kinds, slips, doubts, calls, times)
+    tried(kinds, misread, slips, doubts, calls, times)
