@@ -3,9 +3,9 @@ from typing import NamedTuple
 
 from compared import counts_of
 from sighted import marked
-from told import AXES, Line, bracketed, is_reduced, joined, state_of, states
+from told import AXES, Line, bracketed, is_reduced, joined, states
 from wanted import SIDES, counted
-from ways import Model, Way, line_of
+from ways import Model, Way, state_of, title_of
 
 COPIED_DESK = "Scrambles of nissy: paste all of this where its page has a scramble."
 
@@ -66,7 +66,7 @@ class Sheet:
         alone = [f"{at.count(way.step, side)[0]} {side}" for side in SIDES]
         both = [f"{way.length} over both"] if all(way.dr) else []
         said = f"DR {AXES[way.reduction]} {at.case(way.reduction)}: {', '.join([*alone, *both])}"
-        return [said, f"then {line_of(way.dr)}"]
+        return [said, f"then {bracketed(way.dr)}"]
 
     def copied(self) -> list[str]:
         """All that is kept as it is copied, block by block, without the address at its end."""
@@ -76,7 +76,7 @@ class Sheet:
         """A line as it is copied: a step a line, the first of its reduction, and what is noted."""
         way, lines = self.next_of(kept), kept.line.fmc().split("\n")[1:]
         if way:
-            lines.append(f"{line_of(way.dr)} // {state_of(way.step)} ({way.length}/{way.total})")
+            lines.append(f"{bracketed(way.dr)} // {title_of(way)} ({way.length}/{way.total})")
             lines.append(f"// {self.after(kept)[0]}")
         return "\n".join([*lines, *([f"// {kept.note}"] if kept.note else [])])
 

@@ -3,6 +3,7 @@ import re
 from collections import Counter
 
 from browser import Browser
+from passage import sides_of
 from told import AXES, Line, Listed, Moves, bracketed, cells, heads, is_reduced, passed, states, trigger, twins_said
 from wanted import SIDES, TITLES, counted
 from tally import Tally  # isort: skip
@@ -205,6 +206,6 @@ def best_row(line: Line, way: Way) -> list[object]:
 
 
 def moves_of(row: str) -> Moves:
-    """The moves of a row on both sides, of which those on the inverse stand at its end, in brackets."""
-    normal, _, inverse = row.replace(")", "").partition("(")
-    return normal.strip(), inverse
+    """The moves of a row on both sides."""
+    normal, inverse = sides_of(row)
+    return " ".join(normal), " ".join(inverse)

@@ -5,6 +5,7 @@ from typing import NamedTuple
 
 from passage import begin_of, passage_of
 from wanted import LAST_AXES, SIDES, TITLES, Position, answer, counted, merged_count
+from ways import state_of
 
 # of the folder of the model, which `wanted` names
 import bad_pieces  # isort: skip
@@ -18,11 +19,6 @@ AXES = {"fb": "F/B", "rl": "R/L", "ud": "U/D"}
 TURN = {word_of(turn): EFFECTS[turn] for turn in TURNS}
 # rows of a list that are shown at first
 MOST_SHOWN = 200
-
-
-def state_of(step: str) -> str:
-    """What holds once a step is reached."""
-    return TITLES[step].split(" after")[0]
 
 
 def bracketed(*steps: Moves) -> str:

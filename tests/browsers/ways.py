@@ -79,9 +79,14 @@ def firsts_of(found: list[Way]) -> list[str]:
     return [f"then {line}" if (line := line_of(way.dr)) else "" for way in found]
 
 
+def state_of(step: str) -> str:
+    """What holds once a step is reached."""
+    return TITLES[step].split(" after")[0]
+
+
 def title_of(way: Way) -> str:
     """What the way on reaches by its reduction."""
-    return TITLES[way.step].split(" after")[0]
+    return state_of(way.step)
 
 
 class Model:

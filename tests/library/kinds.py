@@ -101,7 +101,8 @@ def kinds(tally: Tally) -> None:
 def misread(tally: Tally) -> None:
     """What is known to be read wrongly without a word is so still: else its row goes to the others."""
     for kind in listed("misread.tsv"):
-        tally.holds(f"{kind.name} is misread still: {verdict(kind)}", verdict(kind) in ("silent", "none"))
+        found = verdict(kind)
+        tally.holds(f"{kind.name} is misread still: {found}", found in ("silent", "none"))
 
 
 def slips(tally: Tally) -> None:
