@@ -52,6 +52,9 @@ enum nissy_doubt {
     NISSY_REPETITION = 7,        /* moves are said to be made several times, as in "(R U)x2", at the end of a step "R U x2", or in a comment */
     NISSY_INSERTION = 8          /* a step has a mark at which others belong, such as "[1]" between moves or "*" after them, or tells what belongs
                                   * there, as "* = R U"; or it is said that moves are inserted */
+    /* 9, 10 and 13 are told of checks */
+    NISSY_STEP_OR_SCRAMBLE = 11, /* a line after the scramble may be of it, or of another one. Of a check this counts also if it is solved */
+    NISSY_SIGNS = 12             /* moves may be written by signs that aren't read so: by commas between some of them, wide letters or a link */
 };
 
 /* A line of such a text. The places are in bytes of the text, from 0, and don't fall from one to the next, nor from line to line. Its moves
@@ -180,6 +183,7 @@ nissy_part_answer nissy_solving_part(const uint8_t *scramble, size_t scramble_le
 /* What makes one doubt a check too. */
 #define NISSY_A_PART 9          /* a part of the steps solves the scramble, as nissy_solving_part tells */
 #define NISSY_WHICH_SCRAMBLE 10 /* it can't be seen which of the known scrambles it is a solution of */
+#define NISSY_ANOTHER_ATTEMPT 13 /* it is solved already before a line as long as a scramble: another attempt may begin there */
 
 /* The place of what has none in the text. */
 #define NISSY_NO_PLACE UINT64_MAX
@@ -193,9 +197,10 @@ typedef struct nissy_attempt_check {
     uint64_t end_line;        /* which is the first after them */
     uint64_t fault_at;        /* after NISSY_FAULT where it stands in the text; NISSY_NO_PLACE of a known scramble, or if nothing is at fault */
     uint64_t doubt_at;        /* where the doubt is seen; NISSY_NO_PLACE if there is none */
-    uint8_t doubt;            /* that of its first line that has one, else NISSY_A_PART or none. With known scrambles, before these,
+    uint8_t doubt;            /* that of its first line that has one, else NISSY_A_PART, NISSY_ANOTHER_ATTEMPT or none. With known scrambles, before these,
                                * NISSY_WHICH_SCRAMBLE or, as told below, NISSY_ANOTHER_SCRAMBLE */
-    uint8_t doubted;          /* the doubt counts: nothing is at fault, and there is no solution that solves */
+    uint8_t doubted;          /* the doubt counts: nothing is at fault, and there is no solution that solves, or it is
+                               * NISSY_STEP_OR_SCRAMBLE or NISSY_ANOTHER_ATTEMPT */
     uint8_t checked;          /* it has a solution, and it can be seen of which scramble: then `check` says more than a fault */
     nissy_check_answer check; /* what nissy_check says of its scramble and its solution, which is empty if there is none */
     uint8_t unused[4];        /* nothing, so that it has one size on all systems */

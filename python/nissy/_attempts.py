@@ -39,6 +39,9 @@ _DOUBTS = (
     "insertion",
     "a part",
     "which scramble",
+    "step or scramble",
+    "signs",
+    "another attempt",
 )
 
 
@@ -47,7 +50,7 @@ class AttemptDoubt(NamedTuple):
 
     reason: str
     """"another scramble", "several solutions", "side", "letters", "small letters", "comment", "repetition",
-    "insertion", or of a check "a part" or "which scramble"."""
+    "insertion", "step or scramble", "signs", or of a check "a part", "which scramble" or "another attempt"."""
     place: TextPlace
     """Where it is seen in the text."""
 

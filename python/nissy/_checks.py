@@ -18,8 +18,8 @@ from ._written import PlainLine, TextPlace, Written, end_unless_made, string_of
 _Told = Tuple[Any, ...]
 # where those of its check begin
 _OF_CHECK = 10
-# the library's numbers of no scramble and of no place, and of the doubt of a part, which isn't one of the reading
-_NONE, _A_PART = 2**64 - 1, 9
+# the library's numbers of no scramble and of no place, and of the doubts that aren't of the reading
+_NONE, _OF_CHECKS = 2**64 - 1, (9, 13)
 # a text as long as that has as many bytes written of it and of its lines as are never too few
 _MOST_OF_BYTE, _PLACE = 6, 8
 
@@ -135,7 +135,7 @@ class _Checks:
         status, fault, line, solved, column, moves, clean_moves, forms = told[_OF_CHECK:]
         doubt = self._reader.doubt(number, doubt_at) if number else None
         # that of its reading
-        read = None if number == _A_PART else doubt
+        read = None if number in _OF_CHECKS else doubt
         attempt = self._reader.attempt(first, end, read)
         if self._scrambles is not None:
             attempt = self._of_known(attempt, told)

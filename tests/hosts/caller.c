@@ -61,7 +61,8 @@ static void say_names(unsigned bits, const char *const *names, const char *parte
 static const char *const FORMS[] = {"slices", "lower_case", "brackets", "apostrophe", "half_prime", NULL};
 static const char *const LEFT_OUT[] = {"labels", "numbers of moves", "comments", "line numbers", "commas", "signs that aren't seen", NULL};
 static const char *const DOUBTS[] = {"",        "another scramble", "several solutions", "side", "letters", "small letters",
-                                     "comment", "repetition",       "insertion"};
+                                     "comment", "repetition",       "insertion",         "",     "",        "step or scramble",
+                                     "signs"};
 
 static int begins_sign(uint8_t byte) { return (byte & 0xc0) != 0x80; }
 
@@ -168,11 +169,32 @@ static void say_part(text of, lines those, const written *scramble) {
     let_go(steps);
 }
 
+/* Where another attempt may begin after what solves, if there is such a place: at a line of some fifteen moves of which nothing is said. */
+static void say_another(text of, lines those, const written *scramble) {
+    size_t at = 0, steps = 0;
+    for (; at < those.count; at++) {
+        const nissy_text_line *const line = those.first + at;
+        if (line->kind != NISSY_STEP_LINE || !line->solution) continue;
+        if (steps++ && line->label_begin == line->label_end && line->comment == line->end && line->comment - line->moves >= 40) break;
+    }
+    if (at == those.count) return;
+    const written before = moves_of(of, (lines){those.first, at}, NISSY_OF_SOLUTION);
+    if (nissy_check(scramble->bytes, scramble->length, before.bytes, before.length).solved)
+        say_text("another attempt"), say_place(of, those.first[at].moves);
+    let_go(before);
+}
+
 static void say_doubt(text of, lines those) {
     const attempt it = attempt_of(of, those);
     const int is_solved = it.has_solution && it.check.solved;
     size_t at = 0;
     while (at < those.count && those.first[at].doubt == NISSY_NO_DOUBT) at++;
+    if (it.check.status == NISSY_DONE && is_solved) {
+        if (at == those.count)
+            say_another(of, those, &it.scramble);
+        else if (those.first[at].doubt == NISSY_STEP_OR_SCRAMBLE)
+            say_text(DOUBTS[NISSY_STEP_OR_SCRAMBLE]), say_place(of, those.first[at].doubt_at);
+    }
     if (it.check.status == NISSY_DONE && !is_solved) {
         if (at < those.count)
             say_text(DOUBTS[those.first[at].doubt]), say_place(of, those.first[at].doubt_at);

@@ -10,7 +10,8 @@ static guarded moves_of(guarded text, const nissy_text_line *lines, uint64_t cou
     return made;
 }
 
-/* Whether the doubt of an attempt is that of its lines; else, if it isn't solved, that its scramble by itself is, or a part of its steps. */
+/* Whether the doubt of an attempt is that of its lines; else, if it isn't solved, that its scramble by itself is, or a part of its steps; else
+ * that another attempt may begin in a line. */
 static int is_doubt_of(const nissy_text_line *lines, uint64_t count, guarded scramble, const uint64_t *places, int is_unsolved,
                        const nissy_attempt_check *it) {
     uint64_t at = 0;
@@ -18,7 +19,11 @@ static int is_doubt_of(const nissy_text_line *lines, uint64_t count, guarded scr
     if (at < count) return it->doubt == lines[at].doubt && it->doubt_at == lines[at].doubt_at;
     if (is_unsolved && scramble.size > 0 && nissy_check(scramble.bytes, scramble.size, scramble.bytes, 0).solved)
         return it->doubt == NISSY_ANOTHER_SCRAMBLE && it->doubt_at == places[0];
-    return it->doubt == NISSY_NO_DOUBT ? it->doubt_at == NISSY_NO_PLACE : it->doubt == NISSY_A_PART && is_unsolved;
+    if (it->doubt == NISSY_NO_DOUBT) return it->doubt_at == NISSY_NO_PLACE;
+    if (it->doubt == NISSY_A_PART) return is_unsolved;
+    for (at = 0; at < count && lines[at].moves != it->doubt_at; at++) {
+    }
+    return it->doubt == NISSY_ANOTHER_ATTEMPT && !is_unsolved && at < count && lines[at].comment - lines[at].moves >= 40;
 }
 
 /* Whether a check is what nissy_check says of the moves of its lines, and its fault and its doubt stand where they say. */
@@ -35,7 +40,9 @@ static int is_check_of(guarded text, const nissy_text_line *lines, const nissy_a
                          it->check.solved == wanted.solved && it->check.column == wanted.column && it->check.moves == wanted.moves &&
                          it->check.clean_moves == wanted.clean_moves && it->check.forms == wanted.forms && it->checked == checked &&
                          it->fault_at == (wanted.status == NISSY_DONE ? NISSY_NO_PLACE : places[wanted.line - 1][wanted.column - 1]) &&
-                         it->doubted == (it->doubt != NISSY_NO_DOUBT && is_unsolved) &&
+                         it->doubted == (is_unsolved ? it->doubt != NISSY_NO_DOUBT
+                                                     : wanted.status == NISSY_DONE &&
+                                                           (it->doubt == NISSY_STEP_OR_SCRAMBLE || it->doubt == NISSY_ANOTHER_ATTEMPT)) &&
                          is_doubt_of(lines, count, scramble, places[0], is_unsolved, it);
     let_go(scramble), let_go(solution);
     return is_right;

@@ -1,5 +1,5 @@
 -- What is told of attempts that were checked.
-use Rattle.std.specs.Prelude.{◌≡◌, ℕ, zero, suc, ◌+◌, ◌-◌, ◌<◌, ◌==◌, if◌then◌else◌, nat_lt, Bool, true, false, not, ◌&&◌, ⊤, ◌≤◌, ◌↔◌, IsTrue, Ok, min, List, [], ◌∷◌, length, drop, get_or, slice_range}
+use Rattle.std.specs.Prelude.{◌≡◌, ℕ, zero, suc, ◌+◌, ◌-◌, ◌<◌, ◌==◌, if◌then◌else◌, nat_lt, Bool, true, false, not, ◌&&◌, ◌||◌, ⊤, ◌≤◌, ◌↔◌, IsTrue, Ok, min, List, [], ◌∷◌, length, take, drop, get_or, slice_range}
 use Rattle.std.specs.List.{list_any}
 use Rattle.niss_text.specs.Moves.{AreJoined, is_wanted}
 use Rattle.niss_text.specs.declared.left_out.LeftOut.{LeftOut}
@@ -7,10 +7,13 @@ use Rattle.niss_text.specs.declared.moves.MovesOf.{MovesOf}
 use Rattle.niss_text.specs.declared.moves.MovesOf.TheVariants.{Scramble, Solution, EachStep}
 use Rattle.niss_text.specs.declared.moves.MovesPart.{MovesPart}
 use Rattle.niss_text.specs.declared.text_line.TextLine.{TextLine}
+use Rattle.niss_embed.specs.Another.{IsBeforeAnother}
 use Rattle.niss_embed.specs.LineFacts.{check_of}
 use Rattle.niss_embed.specs.Parts.{TellsPart}
 use Rattle.niss_embed.specs.declared.attempt_checks.AttemptCheck.{AttemptCheck}
 use Rattle.niss_embed.specs.declared.attempts.Judged.{Judged}
+use Rattle.niss_embed.specs.declared.attempts.Outcome.{Outcome}
+use Rattle.niss_embed.specs.declared.attempts.Outcome.TheVariants.{AtFault, Solved, Unsolved}
 use Rattle.niss_embed.specs.declared.runs.Placed.{Placed}
 use Rattle.niss_embed.specs.declared.known_parts.Found.{Found}
 use Rattle.niss_text.specs.declared.known.KnownPart.{KnownPart}
@@ -58,9 +61,16 @@ fault_place check scramble_places solution_places =
     if check.column == 0 then no_place
     else get_or (if check.line == 1 then scramble_places else solution_places) (check.column - 1) no_place
 
--- both lines are read, and there is no solution that solves
-abbrev pub is_unsolved : (has_solution : Bool) → CheckAnswer → Bool
-is_unsolved has_solution check = (check.status == 0) && not (has_solution && check.solved)
+-- how a check ended: at a fault, or with a solution that solves, or not
+abbrev pub outcome_of : (has_solution : Bool) → CheckAnswer → Outcome
+outcome_of has_solution check =
+    if not (check.status == 0) then AtFault else (if has_solution && check.solved then Solved else Unsolved)
+
+-- a doubt counts if nothing solves, or if a line may be of a scramble, or another attempt may begin
+abbrev pub counts : Outcome → (reason : ℕ) → Bool
+counts AtFault reason = false
+counts Solved reason = (reason == 11) || (reason == 13)
+counts Unsolved reason = not (reason == 0)
 
 -- the doubt that a part solves which begins at a byte of the steps, of the place of that
 abbrev pub doubt_of_part : PartAnswer → (places : List ℕ) → Doubt
@@ -75,12 +85,32 @@ pub record IsDoubtOfSteps (text : List ℕ) (lines : List TextLine) (scramble : 
   pub tells : TellsPart scramble steps part
   pub told_is : told ≡ doubt_of_part part places
 
--- The doubt is that of the reading, or if there is none, of what isn't solved: the scramble if that is solved by itself, else
--- the steps.
-abbrev pub IsDoubt : (is_unsolved is_solved : Bool) → (text : List ℕ) (lines : List TextLine) (scramble places : List ℕ) (read told : Doubt) → Type 0
-IsDoubt true true text lines scramble places read told = told ≡ doubt 1 (get_or places 0 no_place)
-IsDoubt true false text lines scramble places read told = IsDoubtOfSteps text lines scramble told
-IsDoubt false is_solved text lines scramble places read told = told ≡ read
+-- What isn't solved is in doubt by its scramble if that is solved by itself, else by its steps.
+abbrev pub IsDoubtOfUnsolved : (is_solved : Bool) → (text : List ℕ) (lines : List TextLine) (scramble places : List ℕ) (told : Doubt) → Type 0
+IsDoubtOfUnsolved true text lines scramble places told = told ≡ doubt 1 (get_or places 0 no_place)
+IsDoubtOfUnsolved false text lines scramble places told = IsDoubtOfSteps text lines scramble told
+
+-- what is told if lines solve, or not, before these
+abbrev pub told_from : (solves : Bool) → List TextLine → Doubt
+told_from true (line ∷ lines) = doubt 13 line.moves
+told_from true [] = no_doubt
+told_from false lines = no_doubt
+
+-- What is solved is in doubt if it is so already before the first line in which another attempt may begin.
+pub record IsDoubtOfSolved (text : List ℕ) (lines : List TextLine) (scramble : List ℕ) (told : Doubt) : Type 0 where
+  pub count : ℕ
+  pub before : List ℕ
+  pub places : List ℕ
+  pub is_count : IsBeforeAnother lines count
+  pub are_before : AreWritten text Solution (take count lines) before places
+  pub told_is : told ≡ told_from (check_of scramble before).solved (drop count lines)
+
+-- The doubt is that of the reading, or if there is none, one of what is solved or not.
+abbrev pub IsDoubt : (is_none : Bool) → Outcome → (text : List ℕ) (lines : List TextLine) (scramble places : List ℕ) (read told : Doubt) → Type 0
+IsDoubt false outcome text lines scramble places read told = told ≡ read
+IsDoubt true AtFault text lines scramble places read told = told ≡ read
+IsDoubt true Solved text lines scramble places read told = IsDoubtOfSolved text lines scramble told
+IsDoubt true Unsolved text lines scramble places read told = IsDoubtOfUnsolved (is_solved scramble places) text lines scramble places told
 
 -- What is told of an attempt with these lines and this scramble, of which each byte has its place, and of whose reading
 -- this makes one doubt it.
@@ -91,9 +121,8 @@ pub record IsChecked (text : List ℕ) (lines : List TextLine) (scramble places 
   pub check_is : it.check ≡ check_of scramble solution
   pub fault_is : it.fault_at ≡ fault_place it.check places solution_places
   pub checked_is : it.is_checked ≡ list_any (is_wanted Solution) lines
-  pub counts : it.is_doubted ≡ (is_unsolved it.is_checked it.check && not (it.doubt == 0))
-  pub doubt_is : IsDoubt ((read.reason == 0) && is_unsolved it.is_checked it.check) (is_solved scramble places)
-      text lines scramble places read (doubt it.doubt it.doubt_at)
+  pub counts : it.is_doubted ≡ counts (outcome_of it.is_checked it.check) it.doubt
+  pub doubt_is : IsDoubt (read.reason == 0) (outcome_of it.is_checked it.check) text lines scramble places read (doubt it.doubt it.doubt_at)
 
 -- The same of an attempt whose scramble stands in its lines.
 pub record IsOwn (text : List ℕ) (lines : List TextLine) (it : Judged) : Type 0 where

@@ -10,6 +10,7 @@ pub mod TwoLines
 pub mod BestWays
 pub mod ListedSides
 pub mod Parts
+pub mod Another
 pub mod Attempts
 pub mod Runs
 pub mod Corners

@@ -1,13 +1,15 @@
 //! Whether the solution of an attempt of a text solves its scramble, and what makes one doubt that it is read as it was
 //! meant.
-ghost use Rattle.std.specs.Prelude.{◌≡◌, ◌≤◌, ◌<◌, ◌*◌, ◌==◌, ◌&&◌, IfSome, IsSome, length, take, get_or};
+ghost use Rattle.std.specs.Prelude.{◌≡◌, ◌≤◌, ◌<◌, ◌*◌, ◌==◌, IfSome, IsSome, length, take, get_or};
 ghost use Rattle.std.specs.List.{list_any};
 ghost use Rattle.niss_text.specs.Moves.{is_wanted, number_of_moves, most_bytes};
 ghost use Rattle.niss_text.specs.declared.moves.MovesOf.{MovesOf};
 ghost use Rattle.niss_text.specs.declared.moves.MovesOf.TheVariants.{Solution};
 ghost use Rattle.niss_embed.specs.Attempts.{AreWritten, IsChecked, IsDoubt, IsOwn, doubt, is_solved, no_doubt, no_place};
-ghost use Rattle.niss_embed.specs.Attempts.{first_doubt, fault_place, is_unsolved, doubt_of_part, IsDoubtOfSteps};
+ghost use Rattle.niss_embed.specs.Attempts.{first_doubt, fault_place, outcome_of, counts, doubt_of_part, IsDoubtOfSteps};
+ghost use Rattle.niss_embed.specs.Attempts.{IsDoubtOfSolved, IsDoubtOfUnsolved};
 
+use crate::another::lines_before_another;
 use crate::fact_answers::CheckAnswer;
 use crate::line_facts::check_line;
 use crate::parts::{PartAnswer, solving_part};
@@ -28,6 +30,12 @@ const ANOTHER_SCRAMBLE: u8 = 1;
 /// The doubt that a part of the steps solves.
 const A_PART: u8 = 9;
 
+/// The doubt that a line after a scramble may be of one.
+const STEP_OR_SCRAMBLE: u8 = 11;
+
+/// The doubt that another attempt begins after what solves.
+const ANOTHER_ATTEMPT: u8 = 13;
+
 /// What has no place in the text, or is of none of the known scrambles.
 pub(crate) const NONE: usize = usize::MAX;
 
@@ -40,14 +48,25 @@ pub struct Judged {
     pub fault_at: usize,
     /// Where the doubt stands.
     pub doubt_at: usize,
-    /// What makes one doubt it, by its number: what its lines say, else 1 if its scramble by itself is solved, or 9 if a part
-    /// of its steps solves; 0 for nothing.
+    /// What makes one doubt it, by its number: what its lines say; else, if it isn't solved, 1 if its scramble by itself is,
+    /// or 9 if a part of its steps solves; if it is solved, 13 if it is so before another attempt may begin. 0 for nothing.
     pub doubt: u8,
-    /// Whether the doubt counts: nothing is at fault, and there is no solution that solves.
+    /// Whether the doubt counts: nothing is at fault, and there is no solution that solves, or the doubt is 11 or 13.
     pub is_doubted: bool,
     /// Whether there is a solution of which the check says something.
     pub is_checked: bool,
     pub check: CheckAnswer,
+}
+
+/// How the check of an attempt ended.
+#[derive(Clone, Copy, PartialEq, Eq)]
+pub enum Outcome {
+    /// Its scramble or its solution has a fault.
+    AtFault,
+    /// There is a solution, which solves.
+    Solved,
+    /// No solution solves.
+    Unsolved,
 }
 
 /// What makes one doubt that an attempt is read as it was meant.
@@ -67,13 +86,18 @@ pub struct Given<'a> {
     pub doubt: Doubt,
 }
 
-/// Whether one of some lines is of a solution.
+/// Whether a line is of a solution.
+pub(crate) fn is_of_solution(line: &TextLine) -> bool
+    ensures { result ≡ is_wanted Solution line.now }
+{
+    line.kind == STEP_LINE && line.is_solution != 0
+}
+
+/// Whether one of some lines is.
 pub(crate) fn has_solution(lines: &[TextLine]) -> bool
     ensures { result ≡ list_any (is_wanted Solution) lines.now }
 {
-    lines
-        .iter()
-        .any(|line| line.kind == STEP_LINE && line.is_solution != 0)
+    lines.iter().any(|line| is_of_solution(line))
 }
 
 /// What makes one doubt the first of some lines that is in doubt.
@@ -140,11 +164,30 @@ fn fault_place(check: &CheckAnswer, scramble_places: &[u64], solution_places: &[
     }
 }
 
-/// Whether both lines are read, and there is no solution that solves.
-fn is_unsolved(has_solution: bool, check: &CheckAnswer) -> bool
-    ensures { result ≡ is_unsolved has_solution check.now }
-{
-    check.status == 0 && !(has_solution && check.solved)
+impl Outcome {
+    /// That of the check of an attempt which has a solution or none.
+    fn of(has_solution: bool, check: &CheckAnswer) -> Outcome
+        ensures { result ≡ outcome_of has_solution check.now }
+    {
+        if check.status != 0 {
+            Outcome::AtFault
+        } else if has_solution && check.solved {
+            Outcome::Solved
+        } else {
+            Outcome::Unsolved
+        }
+    }
+
+    /// Whether a doubt of this number counts.
+    fn counts(self, reason: u8) -> bool
+        ensures { result ≡ counts self reason }
+    {
+        match self {
+            Outcome::AtFault => false,
+            Outcome::Solved => matches!(reason, STEP_OR_SCRAMBLE | ANOTHER_ATTEMPT),
+            Outcome::Unsolved => reason != 0,
+        }
+    }
 }
 
 /// Writes the moves of some lines, and says how many bytes these are, if there is room.
@@ -191,29 +234,69 @@ impl Given<'_> {
         !self.places.is_empty() && check_line(self.scramble, &[]).solved
     }
 
-    /// What makes one doubt the attempt, which is solved, at fault, or neither.
+    /// What makes one doubt the attempt if it is solved: that it is so before a line in which another one may begin.
+    fn doubt_of_solved(
+        &self,
+        text: &[u8],
+        lines: &[TextLine],
+        out: &mut [u8],
+        places: &mut [u64],
+    ) -> Option<Doubt>
+        ensures is { IfSome result (λ told. IsDoubtOfSolved text.now lines.now self.now.scramble.now told) }
+        ensures room { most_bytes lines.now ≤ length out.old → most_bytes lines.now ≤ length places.old → IsSome result }
+    {
+        let before = lines_before_another(lines);
+        let count = moves_of(text, &lines[..before], OF_SOLUTION, out, places)?;
+        match lines[before..].first() {
+            Some(line) if check_line(self.scramble, &out[..count]).solved => Some(Doubt {
+                reason: ANOTHER_ATTEMPT,
+                at: line.moves,
+            }),
+            _ => Some(Doubt::none()),
+        }
+    }
+
+    /// What makes one doubt the attempt if it isn't solved.
+    fn doubt_of_unsolved(
+        &self,
+        text: &[u8],
+        lines: &[TextLine],
+        out: &mut [u8],
+        places: &mut [u64],
+    ) -> Option<Doubt>
+        ensures is { IfSome result (λ told. IsDoubtOfUnsolved (is_solved self.now.scramble.now self.now.places.now)
+            text.now lines.now self.now.scramble.now self.now.places.now told) }
+        ensures room { most_bytes lines.now ≤ length out.old → most_bytes lines.now ≤ length places.old → IsSome result }
+    {
+        if self.is_solved() {
+            return Some(Doubt {
+                reason: ANOTHER_SCRAMBLE,
+                at: place_at(self.places, 0),
+            });
+        }
+        doubt_of_steps(text, lines, self.scramble, out, places)
+    }
+
+    /// What makes one doubt the attempt, by how its check ended, if its reading says nothing.
     fn doubt_of(
         &self,
         text: &[u8],
         lines: &[TextLine],
-        is_unsolved: bool,
+        outcome: Outcome,
         out: &mut [u8],
         places: &mut [u64],
     ) -> Option<Doubt>
-        ensures is { IfSome result (λ told. IsDoubt ((self.now.doubt.reason == 0) && is_unsolved) (is_solved self.now.scramble.now self.now.places.now)
-            text.now lines.now self.now.scramble.now self.now.places.now self.now.doubt told) }
+        ensures is { IfSome result (λ told. IsDoubt (self.now.doubt.reason == 0) outcome text.now lines.now self.now.scramble.now self.now.places.now self.now.doubt told) }
         ensures room { most_bytes lines.now ≤ length out.old → most_bytes lines.now ≤ length places.old → IsSome result }
     {
-        if self.doubt.reason == 0 && is_unsolved {
-            if self.is_solved() {
-                return Some(Doubt {
-                    reason: ANOTHER_SCRAMBLE,
-                    at: place_at(self.places, 0),
-                });
-            }
-            return doubt_of_steps(text, lines, self.scramble, out, places);
+        if self.doubt.reason != 0 {
+            return Some(self.doubt);
         }
-        Some(self.doubt)
+        match outcome {
+            Outcome::AtFault => Some(self.doubt),
+            Outcome::Solved => self.doubt_of_solved(text, lines, out, places),
+            Outcome::Unsolved => self.doubt_of_unsolved(text, lines, out, places),
+        }
     }
 }
 
@@ -232,13 +315,13 @@ pub(crate) fn check_by(
     let check = check_line(given.scramble, &out[..count]);
     let fault_at = fault_place(&check, given.places, &places[..count]);
     let has_solution = has_solution(lines);
-    let is_unsolved = is_unsolved(has_solution, &check);
-    let doubt = given.doubt_of(text, lines, is_unsolved, out, places)?;
+    let outcome = Outcome::of(has_solution, &check);
+    let doubt = given.doubt_of(text, lines, outcome, out, places)?;
     Some(Judged {
         fault_at,
         doubt_at: doubt.at,
         doubt: doubt.reason,
-        is_doubted: is_unsolved && doubt.reason != 0,
+        is_doubted: outcome.counts(doubt.reason),
         is_checked: has_solution,
         check,
     })

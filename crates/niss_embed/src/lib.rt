@@ -22,6 +22,7 @@
 //! ```
 #![tactic(auto)]
 
+mod another;
 mod answer;
 mod attempt_checks;
 mod attempts;

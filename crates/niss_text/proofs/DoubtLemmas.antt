@@ -2,7 +2,7 @@
 use Rattle.std.proofs.Common.{◌≡◌, ℕ, ◌+◌, ◌<◌, ◌≤◌, true, false, List, refl, sym, ◌∙◌, arith}
 use Rattle.std.proofs.lemmas.Bool.{false≢true}
 use Rattle.niss_text.specs.declared.doubts.Doubt.{Doubt}
-use Rattle.niss_text.specs.declared.doubts.Doubt.TheVariants.{Nothing, AnotherScramble, SeveralSolutions, Side, Letters, SmallLetters, Comment, Repetition, Insertion}
+use Rattle.niss_text.specs.declared.doubts.Doubt.TheVariants.{Nothing, AnotherScramble, SeveralSolutions, Side, Letters, SmallLetters, Comment, Repetition, Insertion, StepOrScramble, Signs}
 use Rattle.niss_text.specs.declared.sights.Sight.TheVariants.{Joined, Parted, Prime}
 use Rattle.niss_text.specs.Doubts.{IsAsWritten, number_of, sees}
 
@@ -29,6 +29,8 @@ is_nothing SmallLetters h = absurd (omega arith)
 is_nothing Comment h = absurd (omega arith)
 is_nothing Repetition h = absurd (omega arith)
 is_nothing Insertion h = absurd (omega arith)
+is_nothing StepOrScramble h = absurd (omega arith)
+is_nothing Signs h = absurd (omega arith)
 
 pub is_letters : (d : Doubt) → number_of d ≡ 4 → d ≡ Letters
 is_letters Nothing h = absurd (omega arith)
@@ -40,6 +42,8 @@ is_letters SmallLetters h = absurd (omega arith)
 is_letters Comment h = absurd (omega arith)
 is_letters Repetition h = absurd (omega arith)
 is_letters Insertion h = absurd (omega arith)
+is_letters StepOrScramble h = absurd (omega arith)
+is_letters Signs h = absurd (omega arith)
 
 pub is_small_letters : (d : Doubt) → number_of d ≡ 5 → d ≡ SmallLetters
 is_small_letters Nothing h = absurd (omega arith)
@@ -51,3 +55,5 @@ is_small_letters SmallLetters h = refl
 is_small_letters Comment h = absurd (omega arith)
 is_small_letters Repetition h = absurd (omega arith)
 is_small_letters Insertion h = absurd (omega arith)
+is_small_letters StepOrScramble h = absurd (omega arith)
+is_small_letters Signs h = absurd (omega arith)

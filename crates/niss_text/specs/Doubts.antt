@@ -1,10 +1,10 @@
 -- What makes one doubt that a line is read as it was meant.
-use Rattle.std.specs.Prelude.{◌≡◌, ℕ, ◌==◌, ◌+◌, ◌-◌, ◌<◌, ◌≤◌, ◌&&◌, ◌||◌, Bool, true, false, not, if◌then◌else◌, List, slice_index}
+use Rattle.std.specs.Prelude.{◌≡◌, ℕ, ◌==◌, ◌+◌, ◌-◌, ◌<◌, ◌≤◌, ◌⊎◌, ◌&&◌, ◌||◌, Bool, true, false, not, if◌then◌else◌, List, slice_index}
 use Rattle.niss_text.specs.Signs.{is_digit, is_within}
 use Rattle.niss_text.specs.declared.doubts.Doubt.{Doubt}
-use Rattle.niss_text.specs.declared.doubts.Doubt.TheVariants.{Nothing, AnotherScramble, SeveralSolutions, Side, Letters, SmallLetters, Comment, Repetition, Insertion}
+use Rattle.niss_text.specs.declared.doubts.Doubt.TheVariants.{Nothing, AnotherScramble, SeveralSolutions, Side, Letters, SmallLetters, Comment, Repetition, Insertion, StepOrScramble, Signs}
 use Rattle.niss_text.specs.declared.sights.Sight.{Sight}
-use Rattle.niss_text.specs.declared.sights.Sight.TheVariants.{Small, Capital, Joined, Parted, Prime, Repeated, Marked}
+use Rattle.niss_text.specs.declared.sights.Sight.TheVariants.{Small, Capital, Joined, Parted, Prime, Repeated, Marked, Comma, Gap}
 use Rattle.niss_text.specs.declared.text_line.TextLine.{TextLine}
 
 abbrev pub number_of : Doubt → ℕ
@@ -17,6 +17,8 @@ number_of SmallLetters = 5
 number_of Comment = 6
 number_of Repetition = 7
 number_of Insertion = 8
+number_of StepOrScramble = 11
+number_of Signs = 12
 
 -- a letter of ASCII
 abbrev pub is_letter : ℕ → Bool
@@ -69,9 +71,23 @@ unfoldable pub is_marked : List ℕ → ℕ → Bool
 is_marked text k = (slice_index text k == 91) && (is_digit (slice_index text (k + 1)) && ((slice_index text (k + 2) == 93)
     && (is_letter (slice_index text (k + 3)) || ((slice_index text (k + 3) == 32) && is_letter (slice_index text (k + 4))))))
 
+-- a comma or a semicolon
+abbrev pub is_comma : ℕ → Bool
+is_comma b = (b == 44) || (b == 59)
+
+-- a comma at a place, after which a letter stands, or a blank and a letter
+unfoldable pub is_before_letter : List ℕ → ℕ → Bool
+is_before_letter text k = is_comma (slice_index text k)
+    && (is_letter (slice_index text (k + 1)) || ((slice_index text (k + 1) == 32) && is_letter (slice_index text (k + 2))))
+
+-- a blank at a place, and no comma beside it
+unfoldable pub is_gap : List ℕ → ℕ → Bool
+is_gap text k = (slice_index text k == 32) && not (is_comma (slice_index text (k - 1)) || is_comma (slice_index text (k + 1)))
+
 -- What is seen at a place of a text, after the first one of a part of it: a small letter of an outer turn, a capital
 -- one, a letter right after the sign of a move (but the w of a wide turn), a letter after something else, an
--- apostrophe, a number of times after brackets, or a digit in square brackets before moves.
+-- apostrophe, a number of times after brackets, a digit in square brackets before moves, a comma before a letter, or a blank
+-- without a comma beside it.
 unfoldable pub sees : List ℕ → Sight → ℕ → Bool
 sees text Small k = is_small (slice_index text k)
 sees text Capital k = is_capital (slice_index text k)
@@ -80,6 +96,8 @@ sees text Parted k = not (ends_move (slice_index text (k - 1))) && is_letter (sl
 sees text Prime k = is_prime (slice_index text k)
 sees text Repeated k = is_repeated text k
 sees text Marked k = is_marked text k
+sees text Comma k = is_before_letter text k
+sees text Gap k = is_gap text k
 
 -- such a thing is seen nowhere in a part of a text
 abbrev pub HasNone : List ℕ → Sight → ℕ → ℕ → Type 0
@@ -95,15 +113,22 @@ pub record IsAsWritten (text : List ℕ) (from to : ℕ) : Type 0 where
   pub apart : (j : ℕ) → from < j → j < to → sees text Parted j ≡ true → IsParted text from to
   pub unprimed : ((j : ℕ) → from ≤ j → j < to → sees text Prime j ≡ false) → IsParted text from to
 
+-- a line is a step, and nothing stands in it beside its moves
+pub record IsBareStep (line : TextLine) : Type 0 where
+  pub kind : line.kind ≡ 3
+  pub label : line.label_begin ≡ line.label_end
+  pub comment : line.comment ≡ line.end
+
 -- What is said to make a line doubtful stands there, and nothing at its end. Nothing is said of a line before a
 -- scramble, of another scramble only in one, of several solutions and of moves in comments only in a step, of small
 -- letters only in a scramble, or in a step without a capital one. A line of the scramble or of the solution of which
 -- nothing is said has no letters together that aren't written as moves, and no number of times after brackets; one of
 -- the scramble has no small letter of a turn either, and one of the solution none without a capital one, and no digit
--- in square brackets among its moves.
+-- in square brackets among its moves. In both no comma stands among moves of which others are parted by blanks. Only a step
+-- of which nothing is said may be of a scramble.
 pub record IsDoubted (text : List ℕ) (line : TextLine) : Type 0 where
   pub place : (line.begin ≤ line.doubt_at) × (line.doubt_at ≤ line.end)
-  pub number : line.doubt ≤ 8
+  pub number : (line.doubt ≤ 8) ⊎ ((11 ≤ line.doubt) × (line.doubt ≤ 12))
   pub nowhere : line.doubt ≡ 0 → line.doubt_at ≡ line.end
   pub before : line.kind < 2 → line.doubt ≡ 0
   pub another : line.doubt ≡ 1 → line.kind ≡ 2
@@ -119,4 +144,7 @@ pub record IsDoubted (text : List ℕ) (line : TextLine) : Type 0 where
       HasNone text Small line.moves line.comment
   pub once : line.doubt ≡ 0 → line.kind ≡ 2 → HasNone text Repeated line.moves line.comment
   pub once_solved : line.doubt ≡ 0 → line.kind ≡ 3 → line.is_solution ≡ 1 → HasNone text Repeated line.moves line.comment
+  pub commas : line.doubt ≡ 0 → (line.kind ≡ 2) ⊎ ((line.kind ≡ 3) × (line.is_solution ≡ 1)) →
+      HasNone text Comma line.moves (line.comment - 2) ⊎ HasNone text Gap line.moves line.comment
+  pub bare : line.doubt ≡ 11 → IsBareStep line
   pub unmarked : line.doubt ≡ 0 → line.kind ≡ 3 → line.is_solution ≡ 1 → HasNone text Marked (line.moves + 1) line.comment

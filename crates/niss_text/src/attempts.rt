@@ -33,6 +33,8 @@ struct Attempt {
     /// Nothing solves its scramble, which isn't whole, though another of the text is.
     is_strange: bool,
     solution: Option<usize>,
+    /// Where a line after the scramble begins that may be of one.
+    stray: Option<usize>,
     first: usize,
     scramble_end: usize,
     length: usize,
@@ -61,6 +63,11 @@ fn first_attempt(text: &[u8], numbers: Numbers, number: usize, has_whole: bool) 
         } else {
             solutions.group()
         },
+        stray: if seen.may_go_on(lines, scramble_end, numbers) {
+            Some(scramble_end)
+        } else {
+            solutions.stray(scramble_end)
+        },
         first: seen.first,
         scramble_end,
         length: seen.length,
@@ -68,11 +75,12 @@ fn first_attempt(text: &[u8], numbers: Numbers, number: usize, has_whole: bool) 
 }
 
 impl Attempt {
-    /// What is seen of it for the doubts of its lines.
-    fn sheet(&self) -> Sheet {
+    /// What is seen of it for the doubts of a line that begins there.
+    fn sheet(&self, at: usize) -> Sheet {
         Sheet {
             has_solution: self.solution.is_some(),
             is_strange: self.is_strange,
+            is_stray: self.stray == Some(at),
         }
     }
 
@@ -152,7 +160,7 @@ fn put_attempt(
         }
         let role = role_of(attempt, &line, attempt.kind_at(at, &line), group.number);
         let told = told_line(&role, &line, begin + at);
-        let told = judged(text, told, &line, attempt.sheet());
+        let told = judged(text, told, &line, attempt.sheet(at));
         put_line(lines, count, told);
         count += 1;
         at += whole;
@@ -273,6 +281,7 @@ fn solution_alone(text: &[u8]) -> Attempt
         is_formed: true,
         is_strange: false,
         solution: Solutions::seen_in(text, numbers).group(),
+        stray: None,
         first: 0,
         scramble_end: 0,
         length: text.len(),

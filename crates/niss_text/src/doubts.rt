@@ -1,10 +1,11 @@
 //! What makes one doubt that a line is read as it was meant.
-ghost use Rattle.std.specs.Prelude.{◌≡◌, ◌≤◌, ◌<◌, ◌+◌, true, length};
-ghost use Rattle.niss_text.specs.Doubts.{IsDoubted, IsAsWritten, HasNone, number_of, sees};
+ghost use Rattle.std.specs.Prelude.{◌≡◌, ◌≤◌, ◌<◌, ◌+◌, ◌-◌, ◌⊎◌, true, length};
+ghost use Rattle.niss_text.specs.Doubts.{IsDoubted, IsAsWritten, IsBareStep, HasNone, number_of, sees};
 ghost use Rattle.niss_text.specs.Lines.{IsLine};
 ghost use Rattle.niss_text.specs.declared.doubts.Doubt.TheVariants.{Nothing, Letters, SmallLetters};
-ghost use Rattle.niss_text.specs.declared.sights.Sight.TheVariants.{Small, Capital, Joined, Repeated, Marked};
+ghost use Rattle.niss_text.specs.declared.sights.Sight.TheVariants.{Small, Capital, Joined, Repeated, Marked, Comma, Gap};
 
+use crate::among_moves::{comma_at, letters_at, small_alone};
 use crate::body::has_more_than_scramble;
 use crate::forms::has_bracket;
 use crate::line::Line;
@@ -34,6 +35,10 @@ pub enum Doubt {
     Repetition,
     /// Moves are said to belong into others, or a mark stands where they do.
     Insertion,
+    /// A line after the scramble may be of it, or another one. This counts also if the attempt is solved.
+    StepOrScramble,
+    /// Moves may be written by signs that aren't read so: by a comma, wide letters or a link.
+    Signs,
 }
 
 /// What is seen of the attempt of a line.
@@ -43,13 +48,15 @@ pub struct Sheet {
     pub has_solution: bool,
     /// Its scramble isn't written as others of the text, and it has no steps.
     pub is_strange: bool,
+    /// The line may be of a scramble, though it stands after one.
+    pub is_stray: bool,
 }
 
 impl Doubt {
     /// Its number.
     fn number(self) -> u8
         ensures value { result ≡ number_of self }
-        ensures in_range { result ≤ 8 }
+        ensures in_range { (result ≤ 8) ⊎ ((11 ≤ result) × (result ≤ 12)) }
     {
         match self {
             Doubt::Nothing => 0,
@@ -61,48 +68,10 @@ impl Doubt {
             Doubt::Comment => 6,
             Doubt::Repetition => 7,
             Doubt::Insertion => 8,
+            // 9 and 10 are told of checks
+            Doubt::StepOrScramble => 11,
+            Doubt::Signs => 12,
         }
-    }
-}
-
-/// Where letters stand together in the moves of a line as moves don't elsewhere in it, or where the moves end: not if
-/// all stand so, and one has an apostrophe.
-#[tactic(auto, using(crate::proofs::DoubtLemmas::none_joined, crate::proofs::DoubtLemmas::none_parted))]
-fn letters_at(text: &[u8], from: usize, to: usize) -> usize
-    requires { (from ≤ to) × (to ≤ length text.now) }
-    ensures fits { result ≤ to }
-    ensures seen { result < to → (from < result) × (sees text.now Joined result ≡ true) }
-    ensures none { result ≡ to → IsAsWritten text.now from to }
-{
-    if from == to {
-        return to;
-    }
-    let joined = first_seen(text, from + 1, to, Sight::Joined);
-    if joined == to {
-        return to;
-    }
-    let parted = first_seen(text, from + 1, to, Sight::Parted);
-    let prime = first_seen(text, from, to, Sight::Prime);
-    if parted < to || prime == to {
-        joined
-    } else {
-        to
-    }
-}
-
-/// Where the first small letter of a turn stands in the moves of a step, or where the moves end: not if there is a
-/// capital one too.
-fn small_alone(text: &[u8], from: usize, to: usize) -> usize
-    requires { to ≤ length text.now }
-    ensures fits { result ≤ to }
-    ensures seen { result < to → (from ≤ result) × (sees text.now Small result ≡ true) }
-    ensures alone { result < to → HasNone text.now Capital from to }
-    ensures none { result ≡ to → HasNone text.now Capital from to → HasNone text.now Small from to }
-{
-    if first_seen(text, from, to, Sight::Capital) < to {
-        to
-    } else {
-        first_seen(text, from, to, Sight::Small)
     }
 }
 
@@ -110,12 +79,13 @@ fn small_alone(text: &[u8], from: usize, to: usize) -> usize
 /// counts only if the moves have no brackets.
 fn doubt_of_words(text: &[u8], before: &[u8], has_brackets: bool) -> Doubt
     ensures others { (number_of result ≡ 4 → ⊥) × (number_of result ≡ 5 → ⊥) }
-    ensures said { (number_of result ≡ 1 → ⊥) × ((number_of result ≡ 2 → ⊥) × (number_of result ≡ 6 → ⊥)) }
+    ensures said { (number_of result ≡ 1 → ⊥) × ((number_of result ≡ 2 → ⊥) × ((number_of result ≡ 6 → ⊥) × (number_of result ≡ 11 → ⊥))) }
 {
     match first_topic(text, before) {
         Some(Topic::Side) if !has_brackets => Doubt::Side,
         Some(Topic::Repetition) => Doubt::Repetition,
         Some(Topic::Insertion) => Doubt::Insertion,
+        Some(Topic::Unread) => Doubt::Signs,
         _ => Doubt::Nothing,
     }
 }
@@ -127,7 +97,7 @@ fn first_said(text: &[u8], from: usize, to: usize, has_brackets: bool) -> (Doubt
     ensures fits { result.1 ≤ to }
     ensures there { from ≤ to → from ≤ result.1 }
     ensures others { (number_of result.0 ≡ 4 → ⊥) × (number_of result.0 ≡ 5 → ⊥) }
-    ensures said { (number_of result.0 ≡ 1 → ⊥) × ((number_of result.0 ≡ 2 → ⊥) × (number_of result.0 ≡ 6 → ⊥)) }
+    ensures said { (number_of result.0 ≡ 1 → ⊥) × ((number_of result.0 ≡ 2 → ⊥) × ((number_of result.0 ≡ 6 → ⊥) × (number_of result.0 ≡ 11 → ⊥))) }
 {
     for at in from..to {
         let rest = &text[at..to];
@@ -156,7 +126,7 @@ fn doubt_said(text: &[u8], told: &TextLine) -> (Doubt, usize)
     requires fits { told.now.end ≤ length text.now }
     ensures place { (told.now.begin ≤ result.1) × (result.1 ≤ told.now.end) }
     ensures others { (number_of result.0 ≡ 4 → ⊥) × (number_of result.0 ≡ 5 → ⊥) }
-    ensures said { (number_of result.0 ≡ 1 → ⊥) × ((number_of result.0 ≡ 2 → ⊥) × (number_of result.0 ≡ 6 → ⊥)) }
+    ensures said { (number_of result.0 ≡ 1 → ⊥) × ((number_of result.0 ≡ 2 → ⊥) × ((number_of result.0 ≡ 6 → ⊥) × (number_of result.0 ≡ 11 → ⊥))) }
 {
     if told.is_a(LineKind::Note) {
         if is_mark(&text[told.begin..told.end]) {
@@ -179,7 +149,7 @@ fn doubt_of_step(text: &[u8], told: &TextLine, slashes: usize, has_solution: boo
     requires slashes { (told.now.comment ≤ slashes) × (slashes ≤ told.now.end) }
     ensures place { (told.now.begin ≤ result.1) × (result.1 ≤ told.now.end) }
     ensures others { number_of result.0 ≡ 4 → ⊥ }
-    ensures one { number_of result.0 ≡ 1 → ⊥ }
+    ensures one { (number_of result.0 ≡ 1 → ⊥) × (number_of result.0 ≡ 11 → ⊥) }
     ensures nowhere { result.0 ≡ Nothing → result.1 ≡ told.now.end }
     ensures small { result.0 ≡ SmallLetters → sees text.now Small result.1 ≡ true }
     ensures no_capital { result.0 ≡ SmallLetters → HasNone text.now Capital told.now.moves told.now.comment }
@@ -222,6 +192,13 @@ fn doubt_of_step(text: &[u8], told: &TextLine, slashes: usize, has_solution: boo
     (Doubt::Nothing, told.end)
 }
 
+/// Whether a line is a step of which nothing is said.
+fn is_bare_step(told: &TextLine) -> bool
+    ensures { result ≡ true → IsBareStep told.now }
+{
+    told.is_a(LineKind::Step) && (told.label_begin == told.label_end && told.comment == told.end)
+}
+
 /// What makes one doubt a line of moves, and where.
 fn doubt_of_moves(text: &[u8], told: &TextLine, line: &Line, sheet: Sheet) -> (Doubt, usize)
     requires line { IsLine told.now.begin told.now }
@@ -240,6 +217,9 @@ fn doubt_of_moves(text: &[u8], told: &TextLine, line: &Line, sheet: Sheet) -> (D
     ensures letters { result.0 ≡ Letters → sees text.now Joined result.1 ≡ true }
     ensures none { result.0 ≡ Nothing → IsAsWritten text.now told.now.moves told.now.comment }
     ensures once { result.0 ≡ Nothing → HasNone text.now Repeated told.now.moves told.now.comment }
+    ensures commas { result.0 ≡ Nothing →
+        HasNone text.now Comma told.now.moves (told.now.comment - 2) ⊎ HasNone text.now Gap told.now.moves told.now.comment }
+    ensures step { number_of result.0 ≡ 11 → ⊥ }
     ensures unmarked { result.0 ≡ Nothing → told.now.kind ≡ 3 → HasNone text.now Marked (told.now.moves + 1) told.now.comment }
     ensures no_small { result.0 ≡ Nothing → told.now.kind ≡ 2 → HasNone text.now Small told.now.moves told.now.comment }
 {
@@ -255,6 +235,10 @@ fn doubt_of_moves(text: &[u8], told: &TextLine, line: &Line, sheet: Sheet) -> (D
     let repeated = first_seen(text, told.moves, slashes, Sight::Repeated);
     if repeated < slashes {
         return (Doubt::Repetition, repeated);
+    }
+    let comma = comma_at(text, told.moves, told.comment);
+    if comma < told.comment {
+        return (Doubt::Signs, comma);
     }
     if !told.is_a(LineKind::Scramble) {
         return doubt_of_step(text, told, slashes, sheet.has_solution);
@@ -291,10 +275,16 @@ fn doubt_of(text: &[u8], told: &TextLine, line: &Line, sheet: Sheet) -> (Doubt, 
     ensures no_small { result.0 ≡ Nothing → told.now.kind ≡ 2 → HasNone text.now Small told.now.moves told.now.comment }
     ensures once { result.0 ≡ Nothing → told.now.kind ≡ 2 → HasNone text.now Repeated told.now.moves told.now.comment }
     ensures once_solved { result.0 ≡ Nothing → told.now.kind ≡ 3 → told.now.is_solution ≡ 1 → HasNone text.now Repeated told.now.moves told.now.comment }
+    ensures commas { result.0 ≡ Nothing → (told.now.kind ≡ 2) ⊎ ((told.now.kind ≡ 3) × (told.now.is_solution ≡ 1)) →
+        HasNone text.now Comma told.now.moves (told.now.comment - 2) ⊎ HasNone text.now Gap told.now.moves told.now.comment }
+    ensures bare { number_of result.0 ≡ 11 → IsBareStep told.now }
     ensures unmarked { result.0 ≡ Nothing → told.now.kind ≡ 3 → told.now.is_solution ≡ 1 → HasNone text.now Marked (told.now.moves + 1) told.now.comment }
 {
     if told.is_a(LineKind::Scramble) {
         return doubt_of_moves(text, told, line, sheet);
+    }
+    if sheet.is_stray && is_bare_step(told) {
+        return (Doubt::StepOrScramble, told.moves);
     }
     let is_after = told.is_a(LineKind::Step) || told.is_a(LineKind::Note);
     if !is_after || (sheet.has_solution && told.is_solution == 0) {

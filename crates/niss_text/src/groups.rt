@@ -110,6 +110,44 @@ pub struct Solutions {
     told: u8,
     last_told: usize,
     is_final: bool,
+    stray: Stray,
+}
+
+/// A line after a scramble that may be another one: it is as long, nothing is said of it, and of moves under it something
+/// is.
+#[derive(Clone, Copy)]
+struct Stray {
+    /// Where the first moves of the last group stand, if they may be a scramble.
+    begun: Option<usize>,
+    /// Where such a line stands, and its group.
+    found: Option<usize>,
+    group: usize,
+}
+
+impl Stray {
+    fn nothing() -> Stray {
+        Stray {
+            begun: None,
+            found: None,
+            group: 0,
+        }
+    }
+
+    /// After one more line with moves, which begins there, the first of its group that has any or not.
+    fn after(self, line: &Line, at: usize, group: usize, is_first: bool) -> Stray {
+        let mut stray = self;
+        if is_first {
+            stray.begun = if line.is_bare() && line.is_long() {
+                Some(at)
+            } else {
+                None
+            };
+        } else if self.begun.is_some() && line.is_told() {
+            stray.found = self.begun;
+            stray.group = group;
+        }
+        stray
+    }
 }
 
 impl Solutions {
@@ -118,7 +156,7 @@ impl Solutions {
         let mut rest = text;
         let mut seen = Solutions::none();
         while !rest.is_empty() {
-            seen = seen.after(&first_line(rest, numbers));
+            seen = seen.after(&first_line(rest, numbers), text.len() - rest.len());
             rest = &rest[whole_length(rest)..];
         }
         let may_be_written_out = seen.is_under && seen.listed == 1 && seen.is_line;
@@ -139,15 +177,19 @@ impl Solutions {
             told: 0,
             last_told: 0,
             is_final: false,
+            stray: Stray::nothing(),
         }
     }
 
-    /// After one more line.
-    fn after(self, line: &Line) -> Solutions {
+    /// After one more line, which begins there.
+    fn after(self, line: &Line, at: usize) -> Solutions {
         let mut seen = self;
         seen.group = self.group.after(line);
         seen.has_lines = self.has_lines || !line.is_blank;
         if line.is_moves {
+            let number = seen.group.number;
+            let is_first = number != self.group.number || !self.group.has_moves;
+            seen.stray = self.stray.after(line, at, number, is_first);
             seen = seen.with_moves(line.is_told());
         }
         if line.is_solution {
@@ -161,6 +203,15 @@ impl Solutions {
     /// Whether there are moves.
     pub fn has_moves(&self) -> bool {
         self.is_under || self.listed > 0
+    }
+
+    /// Where a line stands that may be another scramble, if these lines begin there: not in the solution, nor directly
+    /// under the scramble.
+    pub fn stray(&self, begin: usize) -> Option<usize> {
+        if self.stray.group == 0 || self.group() == Some(self.stray.group) {
+            return None;
+        }
+        self.stray.found.map(|at| begin.saturating_add(at))
     }
 
     /// With moves in the group, of which something is said or not.

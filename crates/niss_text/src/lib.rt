@@ -2,6 +2,7 @@
 //! knows nothing of what moves do: what isn't told apart here is at fault where it is read as a line.
 #![tactic(auto)]
 
+mod among_moves;
 mod attempts;
 mod body;
 mod doubts;

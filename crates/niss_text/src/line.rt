@@ -72,6 +72,9 @@ pub struct Line {
     ghost slashes_in: { slashes ≤ length },
 }
 
+/// How many bytes a scramble has at least, on one line: those of fifteen moves.
+const SCRAMBLE_BYTES: usize = 40;
+
 impl Line {
     /// A line of that many bytes, which after its head, if it has one, has nothing but moves from there on, or none at its
     /// end.
@@ -104,6 +107,16 @@ impl Line {
     /// Whether words say what it is.
     pub fn is_told(&self) -> bool {
         self.beside == Beside::Words
+    }
+
+    /// Whether nothing stands in it beside moves.
+    pub fn is_bare(&self) -> bool {
+        self.beside == Beside::Nothing && self.head_kind == Head::None
+    }
+
+    /// Whether its moves are as many as those of a scramble, or more.
+    pub fn is_long(&self) -> bool {
+        self.comment - self.moves >= SCRAMBLE_BYTES
     }
 
     /// Whether something is said after its moves.

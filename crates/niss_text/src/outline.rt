@@ -184,6 +184,18 @@ impl Outline {
         self.whole > 0
     }
 
+    /// Whether the line after a scramble, which ends there, may be of it too: the scramble isn't whole, and short, and
+    /// nothing is said of that line.
+    pub fn may_go_on(&self, text: &[u8], scramble_end: usize, numbers: Numbers) -> bool
+        requires { (self.now.first ≤ scramble_end) × (scramble_end ≤ length text.now) }
+    {
+        let next = first_line(&text[scramble_end..], numbers);
+        if self.whole > 0 || !(next.is_moves && next.is_bare()) {
+            return false;
+        }
+        !first_line(&text[self.first..scramble_end], numbers).is_long()
+    }
+
     /// If the attempt has that many bytes.
     fn ended(self, length: usize) -> Outline
         requires { self.first ≤ length }

@@ -1,7 +1,7 @@
 //! What is looked for at each place of a line, and where it is seen first.
 ghost use Rattle.std.specs.Prelude.{◌≡◌, ◌≤◌, ◌<◌, ℕ, true, false, length, slice_index};
 ghost use Rattle.niss_text.specs.Doubts.{is_small, is_capital, is_prime, is_letter, ends_move, closes, is_times, is_cross, last_of_times};
-ghost use Rattle.niss_text.specs.Doubts.{is_after_bracket, is_before_digit, is_repeated, is_marked, sees, HasNone};
+ghost use Rattle.niss_text.specs.Doubts.{is_after_bracket, is_before_digit, is_repeated, is_marked, is_comma, is_before_letter, is_gap, sees, HasNone};
 
 use crate::sign::is_digit_byte;
 
@@ -22,6 +22,10 @@ pub enum Sight {
     Repeated,
     /// A digit in square brackets before moves, such as `[1] R`.
     Marked,
+    /// A comma before a letter.
+    Comma,
+    /// A blank beside which no comma stands.
+    Gap,
 }
 
 /// Whether a byte is a letter of ASCII, a digit or an apostrophe, of which a sign of moves may end.
@@ -134,6 +138,33 @@ fn is_marked(text: &[u8], at: usize) -> bool
             && (is_letter(letter) || (letter == b' ' && is_letter(byte_at(after, 4)))))
 }
 
+/// Whether a byte is a comma or a semicolon.
+fn is_comma(byte: u8) -> bool
+    ensures { result ≡ is_comma byte }
+{
+    byte == b',' || byte == b';'
+}
+
+/// Whether a comma stands at a place of a text, and after it a letter.
+#[tactic(auto, unfolding(crate::specs::Doubts::is_before_letter))]
+fn is_before_letter(text: &[u8], at: usize) -> bool
+    requires { at < length text.now }
+    ensures { result ≡ is_before_letter text.now at }
+{
+    let after = byte_at(text, at + 1);
+    is_comma(text[at]) && (is_letter(after) || (after == b' ' && is_letter(byte_at(text, at + 2))))
+}
+
+/// Whether a blank stands at a place of a text, and no comma beside it.
+#[tactic(auto, unfolding(crate::specs::Doubts::is_gap))]
+fn is_gap(text: &[u8], at: usize) -> bool
+    requires { at < length text.now }
+    ensures { result ≡ is_gap text.now at }
+{
+    text[at] == b' '
+        && !(is_comma(text[at.saturating_sub(1)]) || is_comma(byte_at(text, at + 1)))
+}
+
 /// Whether something is seen at a place of a text.
 #[tactic(auto, unfolding(crate::specs::Doubts::sees))]
 fn sees(text: &[u8], sight: Sight, at: usize) -> bool
@@ -150,6 +181,8 @@ fn sees(text: &[u8], sight: Sight, at: usize) -> bool
         Sight::Prime => is_prime(byte),
         Sight::Repeated => is_repeated(text, at),
         Sight::Marked => is_marked(text, at),
+        Sight::Comma => is_before_letter(text, at),
+        Sight::Gap => is_gap(text, at),
     }
 }
 

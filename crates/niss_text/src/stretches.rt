@@ -4,6 +4,7 @@ ghost use Rattle.std.specs.Prelude.{◌≤◌, ◌<◌, length};
 
 use crate::forms::{is_parted, line_length};
 use crate::line::{Head, Line, Numbers, first_head, first_line, whole_length};
+use crate::parts::number_in;
 use crate::sign::trimmed;
 use crate::words::{Wanted, says};
 
@@ -86,14 +87,38 @@ fn has_numbered_step(text: &[u8], numbers: Numbers) -> bool {
     false
 }
 
+/// Whether the next number in front of a line of a text, if there is one, is this one.
+fn goes_on(text: &[u8], numbers: Numbers, number: usize) -> bool {
+    let mut rest = text;
+    while !rest.is_empty() {
+        let line = first_line(rest, numbers);
+        if line.head_kind == Head::Number {
+            return number_in(&rest[..line.head]) == Some(number);
+        }
+        rest = &rest[whole_length(rest)..];
+    }
+    false
+}
+
+/// Whether numbers in front of lines are those of steps under a scramble, which has the first of them itself: another one
+/// has it too, after which this text goes on.
+fn are_of_steps(text: &[u8], numbers: Numbers, first: Option<usize>, next: Option<usize>) -> bool {
+    match first {
+        Some(number) => next == first && goes_on(text, numbers, number.saturating_add(1)),
+        None => false,
+    }
+}
+
 /// Whether the numbers in front of lines tell scrambles apart: two at least have moves, or one that has a sign that no
-/// list has; no moves are before the first, and none but the first says that it is a step.
+/// list has; no moves are before the first, and none but the first says that it is a step, or is one by its number.
 fn are_listed(text: &[u8], numbers: Numbers) -> bool {
     let mut rest = text;
     let mut is_headed = false;
     let mut is_open = false;
     let mut is_one = false;
     let mut has_own = false;
+    let mut number = None;
+    let mut first = None;
     while !rest.is_empty() {
         let line = first_line(rest, numbers);
         let is_number = line.head_kind == Head::Number;
@@ -106,11 +131,16 @@ fn are_listed(text: &[u8], numbers: Numbers) -> bool {
         if line.is_moves && !is_headed {
             return false;
         }
+        if is_number {
+            number = number_in(&rest[..line.head]);
+        }
         rest = &rest[whole_length(rest)..];
         if line.is_moves && is_open {
             if has_own {
-                return !has_numbered_step(rest, numbers);
+                return !are_of_steps(rest, numbers, first, number)
+                    && !has_numbered_step(rest, numbers);
             }
+            first = number;
             has_own = true;
             is_open = false;
         }

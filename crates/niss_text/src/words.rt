@@ -159,6 +159,8 @@ pub enum Topic {
     Repetition,
     /// Moves that belong into others.
     Insertion,
+    /// Moves that are written by signs that aren't read.
+    Unread,
 }
 
 /// What is said by the letters that a text begins with, after others.
@@ -173,8 +175,10 @@ pub fn first_topic(text: &[u8], before: &[u8]) -> Option<Topic> {
         Some(Topic::Side)
     } else if fits_one_of(text, REPETITIONS, false) {
         Some(Topic::Repetition)
-    } else if is_word(word, b"ins") || begins_insertion(text, is_beyond) {
+    } else if fits_one_of(word, CORRECTIONS, true) || begins_insertion(text, is_beyond) {
         Some(Topic::Insertion)
+    } else if fits_one_of(text, LINKS, false) || is_wide_letter(text) {
+        Some(Topic::Unread)
     } else {
         None
     }
@@ -194,7 +198,18 @@ const REPETITIONS: &[u8] = b"twice,thrice,times,again,once more,repeat";
 
 /// Letters by which solvers say that moves belong into others or in their place, or that others belong into these.
 const INSERTIONS: &[u8] =
-    b"inser,einf,wstaw,instead,should be,replac,correct,oops,edit:,skele,squel,esquel,schele";
+    b"inser,einf,wstaw,instead,should be,replac,correct,oops,skele,squel,esquel,schele";
+
+/// Words by which solvers say the same.
+const CORRECTIONS: &[u8] = b"ins,edit,update,typo";
+
+/// How a link begins, or the moves in one.
+const LINKS: &[u8] = b"http,www.,alg=";
+
+/// Whether a text begins with a capital letter as wide as a Chinese sign.
+fn is_wide_letter(text: &[u8]) -> bool {
+    text.len() > 2 && text[0] == 0xef && text[1] == 0xbc && matches!(text[2], 0xa1..=0xba)
+}
 
 /// The same in Russian, without the first letter, in Chinese, Japanese and Korean.
 const INSERTIONS_BEYOND: &[u8] =

@@ -44,12 +44,13 @@ class CheckReader {
     this.#attempts = new AttemptReader(this.#written, told);
   }
 
-  /** @param doubt of the check, which is that of its reading too unless a part of it would solve */
+  /** @param doubt of the check, which is that of its reading too unless it is one of what solves */
   #attempt(at: number, doubt: AttemptDoubt | null): Attempt {
     const { told: { checks }, scrambles } = this;
     const first = ATTEMPT_READ.firstLine(checks, at);
     const end = ATTEMPT_READ.endLine(checks, at);
-    const attempt = this.#attempts.attempt(first, end, doubt?.reason === "a part" ? null : doubt);
+    const isOfReading = doubt?.reason !== "a part" && doubt?.reason !== "another attempt";
+    const attempt = this.#attempts.attempt(first, end, isOfReading ? doubt : null);
     if (scrambles === undefined) return attempt;
     attempt.name = this.#written.part(ATTEMPT_READ.nameBegin(checks, at), ATTEMPT_READ.nameEnd(checks, at));
     // a great number says of none

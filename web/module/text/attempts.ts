@@ -12,7 +12,7 @@ export type AttemptCandidate = { steps: PlainLine[]; solution: PlainLine; note: 
 /** What makes one doubt a line or a check, by the module's numbers. */
 const REASONS = [
   "", "another scramble", "several solutions", "side", "letters", "small letters", "comment", "repetition", "insertion",
-  "a part", "which scramble",
+  "a part", "which scramble", "step or scramble", "signs", "another attempt",
 ] as const;
 
 /** What makes one doubt that an attempt is read as it was meant, and where that is seen in the text. */
