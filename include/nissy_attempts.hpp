@@ -25,7 +25,7 @@ enum class doubt_reason {
     comment = NISSY_COMMENT,
     repetition = NISSY_REPETITION,
     insertion = NISSY_INSERTION,
-    a_part = NISSY_A_PART,                // of a check: only some of its steps solve the scramble, or its solution with other brackets
+    a_part = NISSY_A_PART,                 // of a check: only some of its steps solve the scramble, or its solution with other brackets
     which_scramble = NISSY_WHICH_SCRAMBLE, // of a check: it isn't seen which of the known scrambles this is a solution of
     step_or_scramble = NISSY_STEP_OR_SCRAMBLE,
     signs = NISSY_SIGNS,
@@ -39,10 +39,9 @@ struct attempt_doubt {
 
     // the reason as the library for Python names it, such as "another scramble"
     std::string name() const {
-        static constexpr std::array<const char *, 14> NAMES = {"",          "another scramble", "several solutions", "side",
-                                                               "letters",   "small letters",    "comment",           "repetition",
-                                                               "insertion", "a part",           "which scramble",    "step or scramble",
-                                                               "signs",     "another attempt"};
+        static constexpr std::array<const char *, 14> NAMES = {
+            "",       "another scramble", "several solutions", "side",  "letters",        "small letters", "comment", "repetition", "insertion",
+            "a part", "which scramble",   "step or scramble",  "signs", "another attempt"};
         return NAMES[static_cast<std::size_t>(reason)];
     }
 };

@@ -181,8 +181,8 @@ typedef struct nissy_part_answer {
 nissy_part_answer nissy_solving_part(const uint8_t *scramble, size_t scramble_length, const uint8_t *steps, size_t steps_length);
 
 /* What makes one doubt a check too. */
-#define NISSY_A_PART 9          /* a part of the steps solves the scramble, as nissy_solving_part tells */
-#define NISSY_WHICH_SCRAMBLE 10 /* it can't be seen which of the known scrambles it is a solution of */
+#define NISSY_A_PART 9           /* a part of the steps solves the scramble, as nissy_solving_part tells */
+#define NISSY_WHICH_SCRAMBLE 10  /* it can't be seen which of the known scrambles it is a solution of */
 #define NISSY_ANOTHER_ATTEMPT 13 /* it is solved already before a line as long as a scramble: another attempt may begin there */
 
 /* The place of what has none in the text. */
@@ -193,15 +193,15 @@ typedef struct nissy_attempt_check {
     uint64_t scramble;   /* which of the known scrambles it is of, from 0, or NISSY_NO_SCRAMBLE */
     uint64_t name_begin; /* where the head of its part stands; both are 0 without one, and of a text without known scrambles */
     uint64_t name_end;
-    uint64_t first_line;      /* which of the lines is its first one, from 0 */
-    uint64_t end_line;        /* which is the first after them */
-    uint64_t fault_at;        /* after NISSY_FAULT where it stands in the text; NISSY_NO_PLACE of a known scramble, or if nothing is at fault */
-    uint64_t doubt_at;        /* where the doubt is seen; NISSY_NO_PLACE if there is none */
-    uint8_t doubt;            /* that of its first line that has one, else NISSY_A_PART, NISSY_ANOTHER_ATTEMPT or none. With known scrambles, before these,
-                               * NISSY_WHICH_SCRAMBLE or, as told below, NISSY_ANOTHER_SCRAMBLE */
-    uint8_t doubted;          /* the doubt counts: nothing is at fault, and there is no solution that solves, or it is
-                               * NISSY_STEP_OR_SCRAMBLE or NISSY_ANOTHER_ATTEMPT */
-    uint8_t checked;          /* it has a solution, and it can be seen of which scramble: then `check` says more than a fault */
+    uint64_t first_line; /* which of the lines is its first one, from 0 */
+    uint64_t end_line;   /* which is the first after them */
+    uint64_t fault_at;   /* after NISSY_FAULT where it stands in the text; NISSY_NO_PLACE of a known scramble, or if nothing is at fault */
+    uint64_t doubt_at;   /* where the doubt is seen; NISSY_NO_PLACE if there is none */
+    uint8_t doubt;       /* that of its first line that has one, else NISSY_A_PART, NISSY_ANOTHER_ATTEMPT or none. With known scrambles, before these,
+                          * NISSY_WHICH_SCRAMBLE or, as told below, NISSY_ANOTHER_SCRAMBLE */
+    uint8_t doubted;     /* the doubt counts: nothing is at fault, and there is no solution that solves, or it is
+                          * NISSY_STEP_OR_SCRAMBLE or NISSY_ANOTHER_ATTEMPT */
+    uint8_t checked;     /* it has a solution, and it can be seen of which scramble: then `check` says more than a fault */
     nissy_check_answer check; /* what nissy_check says of its scramble and its solution, which is empty if there is none */
     uint8_t unused[4];        /* nothing, so that it has one size on all systems */
 } nissy_attempt_check;

@@ -36,14 +36,14 @@ static int is_check_of(guarded text, const nissy_text_line *lines, const nissy_a
     uint8_t checked = 0;
     for (uint64_t of = 0; of < count; of++) checked = checked || (lines[of].kind == NISSY_STEP_LINE && lines[of].solution);
     const int is_unsolved = wanted.status == NISSY_DONE && !(checked && wanted.solved);
-    const int is_right = it->check.status == wanted.status && it->check.fault == wanted.fault && it->check.line == wanted.line &&
-                         it->check.solved == wanted.solved && it->check.column == wanted.column && it->check.moves == wanted.moves &&
-                         it->check.clean_moves == wanted.clean_moves && it->check.forms == wanted.forms && it->checked == checked &&
-                         it->fault_at == (wanted.status == NISSY_DONE ? NISSY_NO_PLACE : places[wanted.line - 1][wanted.column - 1]) &&
-                         it->doubted == (is_unsolved ? it->doubt != NISSY_NO_DOUBT
-                                                     : wanted.status == NISSY_DONE &&
-                                                           (it->doubt == NISSY_STEP_OR_SCRAMBLE || it->doubt == NISSY_ANOTHER_ATTEMPT)) &&
-                         is_doubt_of(lines, count, scramble, places[0], is_unsolved, it);
+    const int is_right =
+        it->check.status == wanted.status && it->check.fault == wanted.fault && it->check.line == wanted.line && it->check.solved == wanted.solved &&
+        it->check.column == wanted.column && it->check.moves == wanted.moves && it->check.clean_moves == wanted.clean_moves &&
+        it->check.forms == wanted.forms && it->checked == checked &&
+        it->fault_at == (wanted.status == NISSY_DONE ? NISSY_NO_PLACE : places[wanted.line - 1][wanted.column - 1]) &&
+        it->doubted == (is_unsolved ? it->doubt != NISSY_NO_DOUBT
+                                    : wanted.status == NISSY_DONE && (it->doubt == NISSY_STEP_OR_SCRAMBLE || it->doubt == NISSY_ANOTHER_ATTEMPT)) &&
+        is_doubt_of(lines, count, scramble, places[0], is_unsolved, it);
     let_go(scramble), let_go(solution);
     return is_right;
 }

@@ -13,8 +13,7 @@ fn is_long_step(line: &TextLine) -> bool
     ensures { result ≡ is_long_step line.now }
 {
     let is_bare = line.label_begin == line.label_end && line.comment == line.end;
-    is_of_solution(line)
-        && (is_bare && line.comment.saturating_sub(line.moves) >= SCRAMBLE_BYTES)
+    is_of_solution(line) && (is_bare && line.comment.saturating_sub(line.moves) >= SCRAMBLE_BYTES)
 }
 
 /// Whether another attempt may begin in a line after one of the solution.

@@ -161,8 +161,7 @@ fn is_gap(text: &[u8], at: usize) -> bool
     requires { at < length text.now }
     ensures { result ≡ is_gap text.now at }
 {
-    text[at] == b' '
-        && !(is_comma(text[at.saturating_sub(1)]) || is_comma(byte_at(text, at + 1)))
+    text[at] == b' ' && !(is_comma(text[at.saturating_sub(1)]) || is_comma(byte_at(text, at + 1)))
 }
 
 /// Whether something is seen at a place of a text.
