@@ -151,8 +151,11 @@ fn is_before_letter(text: &[u8], at: usize) -> bool
     requires { at < length text.now }
     ensures { result ≡ is_before_letter text.now at }
 {
+    if !is_comma(text[at]) {
+        return false;
+    }
     let after = byte_at(text, at + 1);
-    is_comma(text[at]) && (is_letter(after) || (after == b' ' && is_letter(byte_at(text, at + 2))))
+    is_letter(after) || (after == b' ' && is_letter(byte_at(text, at + 2)))
 }
 
 /// Whether a blank stands at a place of a text, and no comma beside it.
