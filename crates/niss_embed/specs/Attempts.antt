@@ -96,8 +96,8 @@ told_from true (line ∷ lines) = doubt 13 line.moves
 told_from true [] = no_doubt
 told_from false lines = no_doubt
 
--- What is solved is in doubt if it is so already before the first line in which another attempt may begin.
-pub record IsDoubtOfSolved (text : List ℕ) (lines : List TextLine) (scramble : List ℕ) (told : Doubt) : Type 0 where
+-- What is solved is so already before the first line in which another attempt may begin, or not.
+pub record IsBegunAgain (text : List ℕ) (lines : List TextLine) (scramble : List ℕ) (told : Doubt) : Type 0 where
   pub count : ℕ
   pub before : List ℕ
   pub places : List ℕ
@@ -105,11 +105,17 @@ pub record IsDoubtOfSolved (text : List ℕ) (lines : List TextLine) (scramble :
   pub are_before : AreWritten text Solution (take count lines) before places
   pub told_is : told ≡ told_from (check_of scramble before).solved (drop count lines)
 
+-- What is solved is in doubt if its scramble is by itself, or what stands before another attempt.
+abbrev pub IsDoubtOfSolved : (is_solved : Bool) → (text : List ℕ) (lines : List TextLine) (scramble places : List ℕ) (told : Doubt) → Type 0
+IsDoubtOfSolved true text lines scramble places told = told ≡ doubt 13 (get_or places 0 no_place)
+IsDoubtOfSolved false text lines scramble places told = IsBegunAgain text lines scramble told
+
 -- The doubt is that of the reading, or if there is none, one of what is solved or not.
 abbrev pub IsDoubt : (is_none : Bool) → Outcome → (text : List ℕ) (lines : List TextLine) (scramble places : List ℕ) (read told : Doubt) → Type 0
 IsDoubt false outcome text lines scramble places read told = told ≡ read
 IsDoubt true AtFault text lines scramble places read told = told ≡ read
-IsDoubt true Solved text lines scramble places read told = IsDoubtOfSolved text lines scramble told
+IsDoubt true Solved text lines scramble places read told =
+    IsDoubtOfSolved (is_solved scramble places) text lines scramble places told
 IsDoubt true Unsolved text lines scramble places read told = IsDoubtOfUnsolved (is_solved scramble places) text lines scramble places told
 
 -- What is told of an attempt with these lines and this scramble, of which each byte has its place, and of whose reading

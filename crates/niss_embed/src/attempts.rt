@@ -49,7 +49,7 @@ pub struct Judged {
     /// Where the doubt stands.
     pub doubt_at: usize,
     /// What makes one doubt it, by its number: what its lines say; else, if it isn't solved, 1 if its scramble by itself is,
-    /// or 9 if a part of its steps solves; if it is solved, 13 if it is so before another attempt may begin. 0 for nothing.
+    /// or 9 if a part of its steps solves; if it is solved, 13 if it is so before its steps, or before another attempt may begin. 0 for nothing.
     pub doubt: u8,
     /// Whether the doubt counts: nothing is at fault, and there is no solution that solves, or the doubt is 11 or 13.
     pub is_doubted: bool,
@@ -234,7 +234,8 @@ impl Given<'_> {
         !self.places.is_empty() && check_line(self.scramble, &[]).solved
     }
 
-    /// What makes one doubt the attempt if it is solved: that it is so before a line in which another one may begin.
+    /// What makes one doubt the attempt if it is solved: that it is so before its steps, or before a line in which another one
+    /// may begin.
     fn doubt_of_solved(
         &self,
         text: &[u8],
@@ -242,9 +243,16 @@ impl Given<'_> {
         out: &mut [u8],
         places: &mut [u64],
     ) -> Option<Doubt>
-        ensures is { IfSome result (λ told. IsDoubtOfSolved text.now lines.now self.now.scramble.now told) }
+        ensures is { IfSome result (λ told. IsDoubtOfSolved (is_solved self.now.scramble.now self.now.places.now)
+            text.now lines.now self.now.scramble.now self.now.places.now told) }
         ensures room { most_bytes lines.now ≤ length out.old → most_bytes lines.now ≤ length places.old → IsSome result }
     {
+        if self.is_solved() {
+            return Some(Doubt {
+                reason: ANOTHER_ATTEMPT,
+                at: place_at(self.places, 0),
+            });
+        }
         let before = lines_before_another(lines);
         let count = moves_of(text, &lines[..before], OF_SOLUTION, out, places)?;
         match lines[before..].first() {

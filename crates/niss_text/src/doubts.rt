@@ -1,5 +1,5 @@
 //! What makes one doubt that a line is read as it was meant.
-ghost use Rattle.std.specs.Prelude.{◌≡◌, ◌≤◌, ◌<◌, ◌+◌, ◌-◌, ◌⊎◌, true, length};
+ghost use Rattle.std.specs.Prelude.{◌≡◌, ◌≤◌, ◌<◌, ◌+◌, ◌-◌, ◌⊎◌, true, length, IfSome};
 ghost use Rattle.niss_text.specs.Doubts.{IsDoubted, IsAsWritten, IsBareStep, HasNone, number_of, sees};
 ghost use Rattle.niss_text.specs.Lines.{IsLine};
 ghost use Rattle.niss_text.specs.declared.doubts.Doubt.TheVariants.{Nothing, Letters, SmallLetters};
@@ -9,7 +9,9 @@ use crate::among_moves::{comma_at, letters_at, small_alone};
 use crate::body::has_more_than_scramble;
 use crate::forms::has_bracket;
 use crate::line::Line;
-use crate::marks::{defined_mark, is_mark, letter_of_words, times_at_end, times_said};
+use crate::marks::{
+    begin_with_letter_of_words, defined_mark, is_mark, letter_of_words, times_at_end, times_said,
+};
 use crate::sights::{Sight, first_seen, is_letter};
 use crate::text_line::{LineKind, TextLine};
 use crate::word::has_three_moves;
@@ -142,6 +144,21 @@ fn doubt_said(text: &[u8], told: &TextLine) -> (Doubt, usize)
     first_said(text, told.comment, told.end, has_brackets)
 }
 
+/// Where the first or the last move of a line stands if it is a letter that may be of the words beside it, up to the slashes.
+fn letter_beside_words(text: &[u8], told: &TextLine, slashes: usize) -> Option<usize>
+    requires line { IsLine told.now.begin told.now }
+    requires fits { told.now.end ≤ length text.now }
+    requires slashes { (told.now.comment ≤ slashes) × (slashes ≤ told.now.end) }
+    ensures { IfSome result (λ at. (told.now.moves ≤ at) × (at ≤ told.now.comment)) }
+{
+    let moves = &text[told.moves..told.comment];
+    if begin_with_letter_of_words(moves, &text[told.label_begin..told.moves]) {
+        return Some(told.moves);
+    }
+    let last = letter_of_words(moves, &text[told.comment..slashes])?;
+    Some(told.moves + last)
+}
+
 /// What makes one doubt a step beside its letters, and where. Its comment begins at the slashes.
 fn doubt_of_step(text: &[u8], told: &TextLine, slashes: usize, has_solution: bool) -> (Doubt, usize)
     requires line { IsLine told.now.begin told.now }
@@ -175,11 +192,8 @@ fn doubt_of_step(text: &[u8], told: &TextLine, slashes: usize, has_solution: boo
     if is_mark(&text[told.comment..slashes]) {
         return (Doubt::Insertion, told.comment);
     }
-    if let Some(at) = letter_of_words(
-        &text[told.moves..told.comment],
-        &text[told.comment..slashes],
-    ) {
-        return (Doubt::Comment, told.moves + at);
+    if let Some(at) = letter_beside_words(text, told, slashes) {
+        return (Doubt::Comment, at);
     }
     let marked = first_seen(text, told.moves + 1, told.comment, Sight::Marked);
     if marked < told.comment {

@@ -113,8 +113,8 @@ pub struct Solutions {
     stray: Stray,
 }
 
-/// A line after a scramble that may be another one: it is as long, nothing is said of it, and of moves under it something
-/// is.
+/// A line after a scramble that may be another one: it is as long, nothing is said of it, and moves under it are fewer, or
+/// something is said of them.
 #[derive(Clone, Copy)]
 struct Stray {
     /// Where the first moves of the last group stand, if they may be a scramble.
@@ -142,7 +142,7 @@ impl Stray {
             } else {
                 None
             };
-        } else if self.begun.is_some() && line.is_told() {
+        } else if self.begun.is_some() && (line.is_told() || !line.is_long()) {
             stray.found = self.begun;
             stray.group = group;
         }

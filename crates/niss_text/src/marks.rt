@@ -3,8 +3,8 @@
 ghost use Rattle.std.specs.Prelude.{◌≤◌, ◌<◌, length, IfSome};
 
 use crate::sights::is_letter;
-use crate::sign::{is_digit_byte, trimmed};
-use crate::words::names_place;
+use crate::sign::{Class, first_sign, is_digit_byte, is_skipped, length_of, trimmed};
+use crate::words::{is_step_name, names_place};
 
 /// Whether a text begins with a number of times, such as `x2` or `2x`.
 fn begins_times(text: &[u8]) -> bool {
@@ -48,21 +48,60 @@ fn last_word(moves: &[u8]) -> usize
     begin
 }
 
+/// Whether a text begins with a word that may go on what stands before it, as `layer` does, or `in`: not the name of a step.
+fn begins_words(text: &[u8]) -> bool {
+    let word = &text[..length_of(text, Class::Letters)];
+    names_place(text) || (word.len() > 1 && !is_step_name(word))
+}
+
+/// Whether a word is a letter by itself.
+fn is_letter_alone(word: &[u8]) -> bool {
+    !word.is_empty() && is_letter(word[0]) && trimmed(&word[1..]).is_empty()
+}
+
 /// Where moves end with a letter by itself that may be of the words after them, such as `U layer`.
 pub fn letter_of_words(moves: &[u8], words: &[u8]) -> Option<usize>
     ensures { IfSome result (λ at. at ≤ length moves.now) }
 {
     // few lines have such words
-    if !names_place(words) {
+    if !begins_words(words) {
         return None;
     }
     let begin = last_word(moves);
-    let word = &moves[begin..];
-    let is_letter_alone = !word.is_empty() && is_letter(word[0]) && trimmed(&word[1..]).is_empty();
-    if is_letter_alone {
+    if is_letter_alone(&moves[begin..]) {
         return Some(begin);
     }
     None
+}
+
+/// The last word of a text, if only blanks stand after it.
+fn word_at_end(text: &[u8]) -> &[u8] {
+    let mut word: &[u8] = &[];
+    let mut rest = text;
+    while !rest.is_empty() {
+        let letters = length_of(rest, Class::Letters);
+        if letters > 0 {
+            word = &rest[..letters];
+            rest = &rest[letters..];
+        } else {
+            let sign = first_sign(rest);
+            if !is_skipped(sign.kind) {
+                word = &[];
+            }
+            rest = &rest[sign.length..];
+        }
+    }
+    word
+}
+
+/// Whether moves begin with a letter by itself that may be of the words before them, such as `square F`.
+pub fn begin_with_letter_of_words(moves: &[u8], words: &[u8]) -> bool {
+    let first = length_of(moves, Class::NoBlanks);
+    if !is_letter_alone(&moves[..first]) {
+        return false;
+    }
+    let word = word_at_end(words);
+    word.len() > 1 && !is_step_name(word)
 }
 
 /// Where moves end with a turn of the cube that may say how many times they are made, such as `x2`.
@@ -121,15 +160,16 @@ pub fn defined_mark(lead: &[u8]) -> Option<usize>
     Some(lead.len() - words.len())
 }
 
-/// Whether all that stands after moves is a mark at which others belong, such as `*` or `[^]`.
+/// Whether all that stands after moves is a mark at which others belong, such as `*` or `[^]`. More than two such signs part
+/// lines.
 pub fn is_mark(tail: &[u8]) -> bool {
-    let mut has_mark = false;
+    let mut marks = 0u8;
     for byte in tail {
         match *byte {
-            b'*' | b'^' | b'@' | b'&' | b'~' | b'$' | b'%' => has_mark = true,
+            b'*' | b'^' | b'@' | b'&' | b'~' | b'$' | b'%' => marks = marks.saturating_add(1),
             b' ' | b'(' | b')' | b'[' | b']' | b'{' | b'}' => {}
             _ => return false,
         }
     }
-    has_mark
+    marks == 1 || marks == 2
 }
