@@ -1,6 +1,8 @@
 pub mod SignLemmas
 pub mod PlainLemmas
 pub mod LineLemmas
+pub mod KeptLemmas
+pub mod ToldLemmas
 pub mod DoubtLemmas
 pub mod MovesLemmas
 pub mod KnownLemmas

@@ -4,19 +4,18 @@ use Rattle.std.proofs.lemmas.Bool.{cases_lt}
 use Rattle.std.proofs.lemmas.List.{take_more_set, take_all, set_past, drop-set-lt, drop-drop, get_or-drop, length-drop}
 use Rattle.niss_text.specs.declared.text_line.TextLine.{TextLine}
 use Rattle.niss_text.specs.Signs.{ends_line}
-use Rattle.niss_text.specs.Doubts.{IsDoubted}
-use Rattle.niss_text.specs.Lines.{IsLine, IsUnbroken, IsEnd, end_of, end_size}
+use Rattle.niss_text.specs.Lines.{IsLine, IsTold, IsUnbroken, IsEnd, end_of, end_size}
 unfoldable use Rattle.niss_text.specs.Lines.{Covers, Counts, Takes, AreNumbered}
 
 pub covers_none : (text : List ℕ) (at : ℕ) → Covers text at [] at
 unfolding Covers
 covers_none text at = refl
 
-pub covers_more : (text : List ℕ) (from : ℕ) (lines : List TextLine) (to : ℕ) (line : TextLine) (size : ℕ) → Covers text from lines to → IsLine to line → IsDoubted text line →
+pub covers_more : (text : List ℕ) (from : ℕ) (lines : List TextLine) (to : ℕ) (line : TextLine) (size : ℕ) → Covers text from lines to → IsLine to line → IsTold text line →
     line.end ≡ to + size → IsUnbroken text to size → Covers text from (lines ++ line ∷ []) (line.end + end_size text line.end)
 unfolding Covers
 covers_more text from [] to line size same is told end whole =
-    subst (λ (at : ℕ). IsLine at line × (IsDoubted text line × ((n : ℕ) × (line.end ≡ at + n) × IsUnbroken text at n × (line.end + end_size text line.end ≡ line.end + end_size text line.end))))
+    subst (λ (at : ℕ). IsLine at line × (IsTold text line × ((n : ℕ) × (line.end ≡ at + n) × IsUnbroken text at n × (line.end + end_size text line.end ≡ line.end + end_size text line.end))))
     (sym same) (is, (told, (size, end, whole, refl)))
 covers_more text from (l ∷ ls) to line size far is told end whole =
     (far.0, (far.1.0, (far.1.1.0, far.1.1.1, far.1.1.2, covers_more text (l.end + end_size text l.end) ls to line size far.1.1.3 is told end whole)))
@@ -40,7 +39,7 @@ line_ends text now size whole line end all =
 
 -- the same in memory: a line is cut from the rest of a text
 pub covers_next : (text : List ℕ) (lines : List TextLine) (count now size whole : ℕ) (line : TextLine) → count < length lines →
-    Covers text 0 (take count lines) now → IsLine now line → IsDoubted text line → line.end ≡ now + size → IsUnbroken (drop now text) 0 size →
+    Covers text 0 (take count lines) now → IsLine now line → IsTold text line → line.end ≡ now + size → IsUnbroken (drop now text) 0 size →
     whole ≡ size + end_size (drop now text) size → Covers text 0 (take (count + 1) (set lines count line)) (now + whole)
 covers_next text lines count now size whole line room far is told end unbroken all =
     let there : line.end + end_size text line.end ≡ now + whole = line_ends text now size whole line end all in
@@ -48,18 +47,18 @@ covers_next text lines count now size whole line room far is told end unbroken a
     subst (λ (ls : List TextLine). Covers text 0 ls (now + whole)) (sym (take_more_set lines count line room))
     (subst (λ (n : ℕ). Covers text 0 (take count lines ++ line ∷ []) n) there (covers_more text 0 (take count lines) now line size far is told end broken))
 
-takes_more : (text : List ℕ) (from : ℕ) (lines : List TextLine) (to : ℕ) (line : TextLine) (size : ℕ) → Takes text from lines to → IsLine to line → IsDoubted text line →
+takes_more : (text : List ℕ) (from : ℕ) (lines : List TextLine) (to : ℕ) (line : TextLine) (size : ℕ) → Takes text from lines to → IsLine to line → IsTold text line →
     line.end ≡ to + size → IsUnbroken text to size → IsEnd text line.end → Takes text from (lines ++ line ∷ []) (line.end + end_size text line.end)
 unfolding Takes
 takes_more text from [] to line size far is told end whole ended =
-    subst (λ (at : ℕ). (from ≤ at) × (IsLine at line × (IsDoubted text line × ((n : ℕ) × (line.end ≡ at + n) × IsUnbroken text at n × IsEnd text line.end
+    subst (λ (at : ℕ). (from ≤ at) × (IsLine at line × (IsTold text line × ((n : ℕ) × (line.end ≡ at + n) × IsUnbroken text at n × IsEnd text line.end
     × (line.end + end_size text line.end ≤ line.end + end_size text line.end))))) (sym is.begins) (far, (is, (told, (size, end, whole, ended, omega arith))))
 takes_more text from (l ∷ ls) to line size far is told end whole ended =
     (far.0, (far.1.0, (far.1.1.0, (far.1.1.1.0, far.1.1.1.1, far.1.1.1.2, far.1.1.1.3, takes_more text (l.end + end_size text l.end) ls to line size far.1.1.1.4 is told end whole ended))))
 
 -- the same in memory
 pub takes_next : (text : List ℕ) (lines : List TextLine) (count now size whole : ℕ) (line : TextLine) → count < length lines →
-    Takes text 0 (take count lines) now → IsLine now line → IsDoubted text line → line.end ≡ now + size → IsUnbroken (drop now text) 0 size →
+    Takes text 0 (take count lines) now → IsLine now line → IsTold text line → line.end ≡ now + size → IsUnbroken (drop now text) 0 size →
     whole ≡ size + end_size (drop now text) size → IsEnd (drop now text) size → Takes text 0 (take (count + 1) (set lines count line)) (now + whole)
 takes_next text lines count now size whole line room far is told end unbroken all ends =
     let there : line.end + end_size text line.end ≡ now + whole = line_ends text now size whole line end all in

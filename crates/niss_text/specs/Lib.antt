@@ -2,6 +2,7 @@ pub mod Numbers
 pub mod Signs
 pub mod Pieces
 pub mod Doubts
+pub mod Kept
 pub mod Lines
 pub mod Known
 pub mod LeftOut

@@ -1,7 +1,8 @@
--- The lines of a text, one after another, and where their parts stand.
-use Rattle.std.specs.Prelude.{◌≡◌, ℕ, zero, suc, ◌==◌, ◌+◌, ◌<◌, ◌≤◌, ◌⊎◌, ◌&&◌, true, false, if◌then◌else◌, List, [], ◌∷◌, length, slice_index}
-use Rattle.niss_text.specs.Signs.{ends_line}
+-- The lines of a text, one after another, where their parts stand, and what is told of them.
+use Rattle.std.specs.Prelude.{◌≡◌, ℕ, zero, suc, ◌==◌, ◌+◌, ◌<◌, ◌≤◌, ◌⊎◌, ◌&&◌, true, false, if◌then◌else◌, List, [], ◌∷◌, length, slice_index, slice_range}
+use Rattle.niss_text.specs.Signs.{ends_line, HasNoMoves}
 use Rattle.niss_text.specs.Doubts.{IsDoubted}
+use Rattle.niss_text.specs.Kept.{LosesNone, ArePlain}
 use Rattle.niss_text.specs.declared.text_line.TextLine.{TextLine}
 
 -- A line that begins there. Its parts stand in this order, and none overlaps another. Only a step is on the inverse.
@@ -17,6 +18,22 @@ pub record IsLine (from : ℕ) (line : TextLine) : Type 0 where
   pub inverse : (line.is_inverse ≡ 0) ⊎ (line.kind ≡ 3)
   pub kind : line.kind ≤ 4
   pub flags : (line.is_solution ≤ 1) × (line.is_headed ≤ 1) × (line.says_solution ≤ 1) × (line.is_inverse ≤ 1)
+
+-- Two lines are of one kind, and have their parts in the same places.
+pub record IsPlacedAs (line other : TextLine) : Type 0 where
+  pub kind : other.kind ≡ line.kind
+  pub head : other.head_end ≡ line.head_end
+  pub label : (other.label_begin ≡ line.label_begin) × (other.label_end ≡ line.label_end)
+  pub moves : (other.moves ≡ line.moves) × (other.comment ≡ line.comment)
+
+-- What is told of a line of a text: what makes one doubt it. It loses no move before its moves; nothing that moves are
+-- made of stands in a blank one after its head; and one that is plain moves is of a scramble or a step, all of it.
+pub record IsTold (text : List ℕ) (line : TextLine) : Type 0 where
+  pub doubted : IsDoubted text line
+  pub kept : LosesNone text line.begin line.head_end line.label_begin line.label_end line.moves
+  pub blank : line.kind ≡ 0 → HasNoMoves (slice_range text line.head_end line.end)
+  pub plain : ArePlain (slice_range text line.begin line.end) →
+      ((line.kind ≡ 2) ⊎ (line.kind ≡ 3)) × ((line.moves ≡ line.begin) × (line.comment ≡ line.end))
 
 -- how many bytes of two end a line: a return and a line feed both, either of them alone, or none
 abbrev pub end_of : ℕ → ℕ → ℕ
@@ -40,19 +57,18 @@ Counts text from zero to = from ≡ to
 Counts text from (suc count) to =
     (from < length text) × ((size : ℕ) × IsUnbroken text from size × IsEnd text (from + size) × Counts text (from + size + end_size text (from + size)) count to)
 
--- The lines of a text from one place to another: each of bytes that don't end it, and after it what does. What makes
--- one doubt a line is told of it.
+-- The lines of a text from one place to another: each of bytes that don't end it, and after it what does.
 unfoldable pub Covers : List ℕ → ℕ → List TextLine → ℕ → Type 0
 Covers text from [] to = from ≡ to
 Covers text from (line ∷ lines) to =
-    IsLine from line × (IsDoubted text line × ((size : ℕ) × (line.end ≡ from + size) × IsUnbroken text from size × Covers text (line.end + end_size text line.end) lines to))
+    IsLine from line × (IsTold text line × ((size : ℕ) × (line.end ≡ from + size) × IsUnbroken text from size × Covers text (line.end + end_size text line.end) lines to))
 
 -- Some of the lines of a text from one place to another, in order: each from some place in its line to what ends that.
 -- Others may stand between them.
 unfoldable pub Takes : List ℕ → ℕ → List TextLine → ℕ → Type 0
 Takes text from [] to = from ≤ to
 Takes text from (line ∷ lines) to =
-    (from ≤ line.begin) × (IsLine line.begin line × (IsDoubted text line × ((size : ℕ) × (line.end ≡ line.begin + size) × IsUnbroken text line.begin size
+    (from ≤ line.begin) × (IsLine line.begin line × (IsTold text line × ((size : ℕ) × (line.end ≡ line.begin + size) × IsUnbroken text line.begin size
     × IsEnd text line.end × Takes text (line.end + end_size text line.end) lines to)))
 
 -- The attempts of lines are numbered in order, from that many on: a line is of the next one, or of the same as the line

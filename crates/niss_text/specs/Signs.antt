@@ -1,5 +1,5 @@
 -- What the signs and the forms of a text are made of.
-use Rattle.std.specs.Prelude.{◌≡◌, ℕ, ◌==◌, Bool, false, ◌||◌, ◌&&◌, nat_le, List}
+use Rattle.std.specs.Prelude.{◌≡◌, ℕ, ◌==◌, Bool, true, false, ◌||◌, ◌&&◌, nat_le, List}
 use Rattle.std.specs.List.{list_any}
 use Rattle.niss_text.specs.declared.sign.Kind.{Kind}
 use Rattle.niss_text.specs.declared.sign.Kind.TheVariants.{LineEnd, Blank, Unseen, Comma, Apostrophe, Prime, Colon, Dash, Slash, Open, Close, Digit, Capital, Small, Beyond, Inner, Other}
@@ -30,8 +30,8 @@ IsSign Unseen bytes = HasNoMoves bytes
 IsSign Comma bytes = HasNoMoves bytes
 IsSign Apostrophe bytes = HasNoMoves bytes
 IsSign Prime bytes = Unit {0}
-IsSign Colon bytes = Unit {0}
-IsSign Dash bytes = Unit {0}
+IsSign Colon bytes = HasNoMoves bytes
+IsSign Dash bytes = HasNoMoves bytes
 IsSign Slash bytes = Unit {0}
 IsSign Open bytes = Unit {0}
 IsSign Close bytes = Unit {0}
@@ -42,6 +42,26 @@ IsSign Beyond bytes = Unit {0}
 IsSign Inner bytes = Unit {0}
 IsSign Other bytes = Unit {0}
 
+-- a sign that parts what stands beside it
+abbrev pub is_skipped : Kind → Bool
+is_skipped LineEnd = false
+is_skipped Blank = true
+is_skipped Unseen = true
+is_skipped Comma = false
+is_skipped Apostrophe = false
+is_skipped Prime = false
+is_skipped Colon = false
+is_skipped Dash = false
+is_skipped Slash = false
+is_skipped Open = false
+is_skipped Close = false
+is_skipped Digit = false
+is_skipped Capital = false
+is_skipped Small = false
+is_skipped Beyond = false
+is_skipped Inner = false
+is_skipped Other = false
+
 -- a line feed or a return
 abbrev pub ends_line : ℕ → Bool
 ends_line b = b == 10 || b == 13
@@ -49,5 +69,9 @@ ends_line b = b == 10 || b == 13
 abbrev pub begins_number : ℕ → Bool
 begins_number b = b == 35 || is_digit b
 
+-- an opened bracket, round or square
+abbrev pub opens : ℕ → Bool
+opens b = b == 40 || b == 91
+
 abbrev pub begins_count : ℕ → ℕ → Bool
-begins_count a b = (a == 40 || a == 91) && is_digit b
+begins_count a b = opens a && is_digit b

@@ -1,5 +1,6 @@
 //! The attempts of a text as solvers write it: which of its lines are scrambles, steps and notes.
-ghost use Rattle.std.specs.Prelude.{◌≡◌, ◌≤◌, ◌<◌, ◌+◌, length, take, drop, set};
+ghost use Rattle.std.specs.Prelude.{◌≡◌, ◌≤◌, ◌<◌, ◌+◌, ◌⊎◌, true, false, length, take, drop, set};
+ghost use Rattle.niss_text.specs.Numbers.{number_of_kind};
 ghost use Rattle.niss_text.specs.Lines.{IsLine, Covers, Counts, Takes, AreNumbered, Begins, BeginNumbered};
 
 use crate::body::is_whole_scramble;
@@ -7,6 +8,7 @@ use crate::doubts::{Sheet, judged};
 use crate::groups::{Group, Solutions};
 use crate::line::{Line, Numbers, cut_line};
 use crate::outline::{is_head, length_behind_scramble, outline_of};
+use crate::sign::from_place;
 use crate::status::Status;
 use crate::stretches::{has_extras, numbers_of, stretch_length};
 use crate::text_line::{LineKind, Role, TextLine, told_line};
@@ -85,10 +87,14 @@ impl Attempt {
     }
 
     /// What a line of it is, which begins there. A head alone before the moves says nothing more.
-    fn kind_at(&self, at: usize, line: &Line) -> LineKind {
+    fn kind_at(&self, at: usize, line: &Line) -> LineKind
+        ensures blank { number_of_kind result ≡ 0 → (line.now.is_blank ≡ true) ⊎ (line.now.is_head_alone ≡ true) }
+        ensures before { number_of_kind result ≡ 1 → line.now.is_moves ≡ false }
+        ensures note { number_of_kind result ≡ 4 → line.now.is_moves ≡ false }
+    {
         if line.is_blank || (at < self.first && line.is_head_alone) {
             LineKind::Blank
-        } else if at < self.first && self.is_formed {
+        } else if at < self.first && self.is_formed && !line.is_moves {
             LineKind::Before
         } else if at < self.scramble_end {
             LineKind::Scramble
@@ -102,7 +108,8 @@ impl Attempt {
 
 /// What a line of an attempt is there, of this kind and in this group.
 fn role_of(attempt: &Attempt, line: &Line, kind: LineKind, group: usize) -> Role
-    ensures { result.attempt ≡ attempt.now.number }
+    ensures attempt { result.attempt ≡ attempt.now.number }
+    ensures kind { result.kind ≡ kind }
 {
     Role {
         kind,
@@ -166,14 +173,6 @@ fn put_attempt(
         at += whole;
     }
     (count, begin + at)
-}
-
-/// What stands in a text from a place on.
-fn from_place(text: &[u8], at: usize) -> &[u8]
-    requires { at ≤ length text.now }
-    ensures { result.now ≡ drop at text.now }
-{
-    &text[at..]
 }
 
 /// How far a text is read: where the next line begins, how many lines are written, and how many attempts these are.

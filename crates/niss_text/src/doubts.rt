@@ -1,7 +1,7 @@
 //! What makes one doubt that a line is read as it was meant.
 ghost use Rattle.std.specs.Prelude.{◌≡◌, ◌≤◌, ◌<◌, ◌+◌, ◌-◌, ◌⊎◌, true, length, IfSome};
 ghost use Rattle.niss_text.specs.Doubts.{IsDoubted, IsAsWritten, IsBareStep, HasNone, number_of, sees};
-ghost use Rattle.niss_text.specs.Lines.{IsLine};
+ghost use Rattle.niss_text.specs.Lines.{IsLine, IsPlacedAs};
 ghost use Rattle.niss_text.specs.declared.doubts.Doubt.TheVariants.{Nothing, Letters, SmallLetters};
 ghost use Rattle.niss_text.specs.declared.sights.Sight.TheVariants.{Small, Capital, Joined, Repeated, Marked, Comma, Gap};
 
@@ -339,6 +339,7 @@ pub fn judged(text: &[u8], told: TextLine, line: &Line, sheet: Sheet) -> TextLin
     ensures ends { result.end ≡ told.end }
     ensures attempt { result.attempt ≡ told.attempt }
     ensures doubt { IsDoubted text.now result }
+    ensures placed { IsPlacedAs told result }
 {
     let (doubt, at) = doubt_of(text, &told, line, sheet);
     TextLine {

@@ -1,17 +1,19 @@
-//! What stands in a text beside moves: numbers of moves and of lines, heads, labels and comments.
-ghost use Rattle.std.specs.Prelude.{◌≡◌, ◌≤◌, ◌<◌, ℕ, true, false, length, slice_index, IfSome};
-ghost use Rattle.niss_text.specs.Signs.{ends_line};
+//! What stands in a text beside moves: numbers of moves, labels and comments.
+ghost use Rattle.std.specs.Prelude.{◌≡◌, ◌≤◌, ◌<◌, ℕ, true, false, [], ◌∷◌, length, take, slice_index, slice_range, IfSome};
+ghost use Rattle.niss_text.specs.Signs.{IsSign, HasNoMoves, ends_line, opens};
+ghost use Rattle.niss_text.specs.Kept.{HasNoLetters, HasOnlyWords, IsCount, IsTitleEnd, words_of_count};
 
 use crate::sign::{
-    Class, Kind, digits_length, first_kind, is_letter, is_of_word, is_skipped, length_of, one_sign,
-    trimmed,
+    Class, Kind, digits_length, first_kind, from_place, is_letter, is_of_word, is_skipped,
+    length_of, one_sign, trimmed,
 };
-use crate::words::{head_word_length, is_other_side, word_length};
+use crate::words::{is_other_side, word_length};
 
 /// How many bytes the first sign of a text has if it is of this kind; else 0.
 #[inline(never)]
-fn sign_length(text: &[u8], kind: Kind) -> usize
-    ensures { result ≤ length text.now }
+pub fn sign_length(text: &[u8], kind: Kind) -> usize
+    ensures fits { result ≤ length text.now }
+    ensures is { 0 < result → IsSign kind (take result text.now) }
 {
     if text.is_empty() {
         return 0;
@@ -20,9 +22,22 @@ fn sign_length(text: &[u8], kind: Kind) -> usize
     if sign.kind == kind { sign.length } else { 0 }
 }
 
+/// How many bytes this one has in front of a text: 1 if it stands there; else 0.
+pub fn mark_length(text: &[u8], mark: u8) -> usize
+    ensures fits { result ≤ length text.now }
+    ensures is { 0 < result → take result text.now ≡ mark ∷ [] }
+{
+    if text.is_empty() || text[0] != mark {
+        0
+    } else {
+        1
+    }
+}
+
 /// How many bytes " move" or " moves" has in front of a text; else 0.
 fn moves_length(text: &[u8]) -> usize
-    ensures { result ≤ length text.now }
+    ensures fits { result ≤ length text.now }
+    ensures word { HasOnlyWords words_of_count (take result text.now) }
 {
     let many = word_length(text, b" moves");
     if many > 0 {
@@ -34,13 +49,36 @@ fn moves_length(text: &[u8]) -> usize
 
 /// How many bytes a slash and digits have in front of a text; else 0.
 fn total_length(text: &[u8]) -> usize
-    ensures { result ≤ length text.now }
+    ensures fits { result ≤ length text.now }
+    ensures letters { HasNoLetters (take result text.now) }
 {
-    if text.is_empty() || text[0] != b'/' {
-        return 0;
+    let slash = mark_length(text, b'/');
+    let digits = digits_length(from_place(text, slash));
+    if slash == 0 || digits == 0 {
+        0
+    } else {
+        slash + digits
     }
-    let digits = digits_length(&text[1..]);
-    if digits == 0 { 0 } else { digits + 1 }
+}
+
+/// Whether a byte opens a bracket.
+fn opens(byte: u8) -> bool
+    ensures { result ≡ opens byte }
+{
+    byte == b'(' || byte == b'['
+}
+
+/// How many bytes a closed bracket has in front of a text; else 0.
+fn close_length(text: &[u8]) -> usize
+    ensures fits { result ≤ length text.now }
+    ensures letters { HasNoLetters (take result text.now) }
+{
+    let round = mark_length(text, b')');
+    if round > 0 {
+        round
+    } else {
+        mark_length(text, b']')
+    }
 }
 
 /// How many bytes a number of moves has in front of a text, such as `(2)`, `[1/5]` or `(12 moves)`; 0 if there is none.
@@ -48,22 +86,24 @@ fn total_length(text: &[u8]) -> usize
 pub fn count_length(text: &[u8]) -> usize
     ensures fits { result ≤ length text.now }
     ensures long { 0 < result → 2 < result }
+    ensures is { 0 < result → IsCount (take result text.now) }
 {
-    if text.is_empty() || (text[0] != b'(' && text[0] != b'[') {
+    if text.is_empty() || !opens(text[0]) {
         return 0;
     }
-    let number = &text[1..];
+    let number = from_place(text, 1);
     let digits = digits_length(number);
     if digits == 0 {
         return 0;
     }
-    let total = &number[digits..];
-    let words = &total[total_length(total)..];
-    let close = &words[moves_length(words)..];
-    if close.is_empty() || (close[0] != b')' && close[0] != b']') {
+    let total = from_place(number, digits);
+    let words = from_place(total, total_length(total));
+    let close = from_place(words, moves_length(words));
+    let end = close_length(close);
+    if end == 0 {
         return 0;
     }
-    text.len() - close.len() + 1
+    text.len() - close.len() + end
 }
 
 /// How many bytes of a text stand before the end of its first line.
@@ -93,142 +133,45 @@ pub fn begins_comment(text: &[u8]) -> bool {
     text.len() > 1 && text[0] == b'/' && text[1] == b'/'
 }
 
+/// How many bytes stand before the comment of a line.
+pub fn comment_at(line: &[u8]) -> usize
+    ensures { result ≤ length line.now }
+{
+    let mut rest = line;
+    while !rest.is_empty() {
+        if begins_comment(rest) {
+            return line.len() - rest.len();
+        }
+        rest = &rest[1..];
+    }
+    line.len()
+}
+
+/// How many bytes of blanks a line begins with.
+pub fn blanks(line: &[u8]) -> usize
+    ensures fits { result ≤ length line.now }
+    ensures empty { HasNoMoves (take result line.now) }
+{
+    line.len() - trimmed(line).len()
+}
+
+/// How many bytes of blanks and of signs that quote it, such as `> `, a line begins with.
+#[inline(never)]
+pub fn margin(line: &[u8]) -> usize
+    ensures fits { result ≤ length line.now }
+    ensures empty { HasNoMoves (take result line.now) }
+{
+    let mut rest = trimmed(line);
+    while !rest.is_empty() && rest[0] == b'>' {
+        rest = trimmed(from_place(rest, 1));
+    }
+    line.len() - rest.len()
+}
+
 /// Whether a line goes on with a blank, or ends.
 pub fn is_parted(line: &[u8]) -> bool {
     let kind = first_kind(line);
     is_skipped(kind) || kind == Kind::LineEnd
-}
-
-/// How many bytes a sign has that ends a number in front of a text, if no digit follows it; else 0.
-#[inline(never)]
-fn number_end_length(text: &[u8]) -> usize
-    ensures { result ≤ length text.now }
-{
-    if text.is_empty() {
-        return 0;
-    }
-    let sign = one_sign(text);
-    let is_end = text[0] == b'.' || text[0] == b')' || sign.kind == Kind::Colon;
-    if is_end && first_kind(&text[sign.length..]) != Kind::Digit {
-        sign.length
-    } else {
-        0
-    }
-}
-
-/// How many bytes the number of a line has in front of it, such as `2.` or `#2`; 0 if there is none.
-#[inline(never)]
-pub fn number_length(line: &[u8]) -> usize
-    ensures { result ≤ length line.now }
-{
-    let mark = if line.is_empty() || line[0] != b'#' {
-        0
-    } else {
-        1
-    };
-    let digits = digits_length(&line[mark..]);
-    if digits == 0 {
-        return 0;
-    }
-    let rest = &line[mark + digits..];
-    let end = number_end_length(rest);
-    if end > 0 || (mark > 0 && is_parted(rest)) {
-        mark + digits + end
-    } else {
-        0
-    }
-}
-
-/// How many bytes a number has that stands before one of several scrambles and isn't the number of a line, such as `2`,
-/// `(2)` or, in a list with such extras, `E2`; 0 if there is none.
-pub fn listed_length(line: &[u8], has_extras: bool) -> usize
-    ensures { result ≤ length line.now }
-{
-    if line.is_empty() {
-        return 0;
-    }
-    let mark = if line[0] == b'(' || (has_extras && line[0] == b'E') {
-        1
-    } else {
-        0
-    };
-    let digits = digits_length(&line[mark..]);
-    if digits == 0 {
-        return 0;
-    }
-    let rest = &line[mark + digits..];
-    let end = number_end_length(rest);
-    if end > 0 || is_parted(rest) {
-        mark + digits + end
-    } else {
-        0
-    }
-}
-
-/// What is after "of 3" or "/3" in front of a line, or the line itself.
-fn behind_total(line: &[u8]) -> &[u8]
-    ensures { length result.now ≤ length line.now }
-{
-    let word = trimmed(line);
-    let of = if !word.is_empty() && word[0] == b'/' {
-        1
-    } else {
-        word_length(word, b"of")
-    };
-    let number = trimmed(&word[of..]);
-    let digits = digits_length(number);
-    if of == 0 || digits == 0 {
-        line
-    } else {
-        &number[digits..]
-    }
-}
-
-/// What is after the sign that ends a head, or the line itself.
-fn behind_end(line: &[u8]) -> &[u8]
-    ensures { length result.now ≤ length line.now }
-{
-    let sign = trimmed(line);
-    let dash = sign_length(sign, Kind::Dash);
-    let end = if dash > 0 {
-        dash
-    } else {
-        number_end_length(sign)
-    };
-    if end == 0 { line } else { &sign[end..] }
-}
-
-/// How many bytes the word before a scramble has in front of a line, with its number, such as `Attempt 1 of 3`, or with
-/// a colon; 0 if there is none.
-pub fn head_length(line: &[u8]) -> usize
-    ensures { result ≤ length line.now }
-{
-    let word = head_word_length(line);
-    if word == 0 {
-        return 0;
-    }
-    let number = trimmed(&line[word..]);
-    let colon = sign_length(number, Kind::Colon);
-    if colon > 0 {
-        return line.len() - number.len() + colon;
-    }
-    let mark = if number.is_empty() || number[0] != b'#' {
-        0
-    } else {
-        1
-    };
-    let digits = digits_length(&number[mark..]);
-    if digits == 0 {
-        return 0;
-    }
-    let rest = &number[mark + digits..];
-    let total = behind_total(rest);
-    let end = behind_end(total);
-    if end.len() < total.len() || is_parted(end) {
-        line.len() - end.len()
-    } else {
-        0
-    }
 }
 
 /// Whether a word may be a move, so that a colon after it is at fault.
@@ -295,6 +238,8 @@ pub struct Label {
 fn words_before_colon(line: &[u8]) -> (usize, usize)
     ensures order { result.0 ≤ result.1 }
     ensures fits { result.1 ≤ length line.now }
+    ensures some { 0 < result.1 → 0 < result.0 }
+    ensures end { IsTitleEnd (slice_range line.now result.0 result.1) }
 {
     if line.len() < 2 || !is_letter(first_kind(line)) || !is_of_word(first_kind(&line[1..])) {
         return (0, 0);
@@ -303,8 +248,8 @@ fn words_before_colon(line: &[u8]) -> (usize, usize)
     if words < 2 {
         return (0, 0);
     }
-    let count = &line[words..];
-    let rest = trimmed(&count[count_length(count)..]);
+    let count = from_place(line, words);
+    let rest = trimmed(from_place(count, count_length(count)));
     let colon = sign_length(rest, Kind::Colon);
     if colon == 0 {
         return (0, 0);
@@ -315,7 +260,9 @@ fn words_before_colon(line: &[u8]) -> (usize, usize)
 /// The label in front of a line, unless its words may be moves, or the moves after it belong to the inverse and don't
 /// say so themselves.
 pub fn label_of(line: &[u8]) -> Option<Label>
-    ensures { IfSome result (λ label. label.length ≤ length line.now) }
+    ensures fits { IfSome result (λ label. label.length ≤ length line.now) }
+    ensures some { IfSome result (λ label. 0 < label.words) }
+    ensures end { IfSome result (λ label. IsTitleEnd (slice_range line.now label.words label.length)) }
 {
     let (words, length) = words_before_colon(line);
     if length == 0 || are_like_moves(&line[..words]) {

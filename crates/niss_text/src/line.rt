@@ -1,14 +1,14 @@
 //! A line of a text: where its parts are, and what is seen of it.
-ghost use Rattle.std.specs.Prelude.{◌≡◌, ◌≤◌, ◌<◌, ◌+◌, true, length, slice_index};
-ghost use Rattle.niss_text.specs.Signs.{ends_line};
+ghost use Rattle.std.specs.Prelude.{◌≡◌, ◌≤◌, ◌<◌, ◌+◌, ◌⊎◌, true, false, length, take, drop, slice_index, slice_range};
+ghost use Rattle.niss_text.specs.Signs.{ends_line, HasNoMoves};
+ghost use Rattle.niss_text.specs.Kept.{BeginNoMoves, HasOnlyWords, IsTitleEnd, LosesNone, ArePlain, words_of_head};
 ghost use Rattle.niss_text.specs.Lines.{IsUnbroken, IsEnd, end_of, end_size};
 
 use crate::body::{has_frame, is_whole_scramble};
-use crate::forms::{
-    begins_comment, head_length, label_of, line_length, listed_length, number_length,
-};
-use crate::sign::{Class, behind, is_digit_byte, trimmed};
-use crate::span::span_of;
+use crate::forms::{blanks, line_length, margin};
+use crate::heads::{head_length, listed_length, number_length};
+use crate::line_parts::parts_of;
+use crate::sign::{Class, behind, from_place, is_digit_byte};
 use crate::word::are_plain_moves;
 use crate::words::{Wanted, says};
 
@@ -81,7 +81,12 @@ impl Line {
     fn bare(head: (Head, usize), moves: usize, length: usize, is_whole: bool) -> Line
         requires head { head.1 ≤ moves }
         requires moves { moves ≤ length }
-        ensures { result.length ≡ length }
+        ensures length { result.length ≡ length }
+        ensures head { result.head ≡ head.1 }
+        ensures label { (result.label_begin ≡ moves) × ((result.label_end ≡ moves) × (result.moves ≡ moves)) }
+        ensures comment { result.comment ≡ length }
+        ensures bare { (result.is_blank ≡ true) ⊎ (result.is_head_alone ≡ true) → moves ≡ length }
+        ensures moves { moves < length → result.is_moves ≡ true }
     {
         Line {
             head_kind: head.0,
@@ -125,39 +130,6 @@ impl Line {
     }
 }
 
-/// How many bytes stand before the comment of a line.
-fn comment_at(line: &[u8]) -> usize
-    ensures { result ≤ length line.now }
-{
-    let mut rest = line;
-    while !rest.is_empty() {
-        if begins_comment(rest) {
-            return line.len() - rest.len();
-        }
-        rest = &rest[1..];
-    }
-    line.len()
-}
-
-/// How many bytes of blanks a line begins with.
-fn blanks(line: &[u8]) -> usize
-    ensures { result ≤ length line.now }
-{
-    line.len() - trimmed(line).len()
-}
-
-/// How many bytes of blanks and of signs that quote it, such as `> `, a line begins with.
-#[inline(never)]
-fn margin(line: &[u8]) -> usize
-    ensures { result ≤ length line.now }
-{
-    let mut rest = trimmed(line);
-    while !rest.is_empty() && rest[0] == b'>' {
-        rest = trimmed(&rest[1..]);
-    }
-    line.len() - rest.len()
-}
-
 /// Whether a line has nothing but blanks and signs that quote it.
 pub fn is_blank(line: &[u8]) -> bool {
     margin(line) == line.len()
@@ -171,16 +143,18 @@ fn begins_head(byte: u8) -> bool {
 /// What tells a scramble from others in front of a line, and how many bytes it has.
 #[inline(never)]
 fn head_of(line: &[u8], numbers: Numbers) -> (Head, usize)
-    ensures { result.1 ≤ length line.now }
+    ensures fits { result.1 ≤ length line.now }
+    ensures words { HasOnlyWords words_of_head (take result.1 line.now) }
 {
     if line.is_empty() || !begins_head(line[0]) {
         return (Head::None, 0);
     }
     let number = number_length(line);
-    let behind_number = number + blanks(&line[number..]);
-    let word = head_length(&line[behind_number..]);
+    let numbered = from_place(line, number);
+    let blank = blanks(numbered);
+    let word = head_length(from_place(numbered, blank));
     if word > 0 {
-        return (Head::Word, behind_number + word);
+        return (Head::Word, number + blank + word);
     }
     if numbers == Numbers::OfLines {
         return (Head::None, 0);
@@ -191,52 +165,6 @@ fn head_of(line: &[u8], numbers: Numbers) -> (Head, usize)
     match listed_length(line, numbers == Numbers::WithExtras) {
         0 => (Head::None, 0),
         listed => (Head::Number, listed),
-    }
-}
-
-/// Where the parts of a line are: its label, its moves, and what is said after them.
-#[derive(Clone, Copy)]
-struct Parts {
-    label_begin: usize,
-    label_end: usize,
-    moves: usize,
-    comment: usize,
-    name: usize,
-    slashes: usize,
-    is_moves: bool,
-    ghost label_in: { label_begin ≤ label_end },
-    ghost words_in: { label_end ≤ moves },
-    ghost moves_in: { moves ≤ comment },
-    ghost comment_in: { comment ≤ slashes },
-    ghost name_in: { name ≤ slashes },
-}
-
-/// Where the parts of a line are after its head, which has that many bytes.
-fn parts_of(line: &[u8], head: usize) -> Parts
-    requires { head ≤ length line.now }
-    ensures head { head ≤ result.label_begin }
-    ensures fits { result.slashes ≤ length line.now }
-{
-    let slashes = head + comment_at(&line[head..]);
-    let number_begin = head + margin(&line[head..slashes]);
-    let number_end = number_begin + number_length(&line[number_begin..slashes]);
-    let begin = number_end + blanks(&line[number_end..slashes]);
-    let (words, title) = match label_of(&line[begin..slashes]) {
-        Some(label) => (label.words, label.length),
-        None => (0, 0),
-    };
-    let body = begin + title;
-    let span = span_of(&line[body..slashes]);
-    let comment = body + span.end;
-    let lead = body + span.begin;
-    Parts {
-        label_begin: begin,
-        label_end: if words == 0 { lead } else { begin + words },
-        moves: lead + blanks(&line[lead..comment]),
-        comment,
-        name: body + span.name,
-        slashes,
-        is_moves: span.is_moves,
     }
 }
 
@@ -251,17 +179,31 @@ fn seen_beside(label: &[u8], has_words: bool) -> Beside {
     }
 }
 
+/// Whether a line has nothing but blanks from a place on.
+fn is_empty_from(line: &[u8], from: usize) -> bool
+    requires { from ≤ length line.now }
+    ensures { result ≡ true → HasNoMoves (drop from line.now) }
+{
+    let rest = from_place(line, from);
+    blanks(rest) == rest.len()
+}
+
 /// A line that isn't blank without what stands in front of it, which has that many bytes.
 fn line_behind(line: &[u8], head_kind: Head, head: usize) -> Line
     requires { head ≤ length line.now }
     ensures head { result.head ≡ head }
     ensures kind { result.head_kind ≡ head_kind }
     ensures length { result.length ≡ length line.now }
+    ensures margin { BeginNoMoves (slice_range line.now head result.label_begin) }
+    ensures title { IsTitleEnd (slice_range line.now result.label_end result.moves) }
+    ensures filled { result.is_blank ≡ false }
+    ensures alone { result.is_head_alone ≡ true → HasNoMoves (drop head line.now) }
 {
     let parts = parts_of(line, head);
     let label = &line[parts.label_begin..parts.label_end];
+    let title = &line[parts.label_begin..parts.title_end];
     let body = &line[parts.moves..parts.comment];
-    let is_solution = says(label, Wanted::Solution);
+    let is_solution = says(title, Wanted::Solution);
     let has_words = head_kind == Head::Word || parts.comment < line.len();
     Line {
         head_kind,
@@ -274,11 +216,11 @@ fn line_behind(line: &[u8], head_kind: Head, head: usize) -> Line
         slashes: parts.slashes,
         length: line.len(),
         is_blank: false,
-        is_head_alone: head_kind != Head::None && blanks(&line[head..]) == line.len() - head,
+        is_head_alone: head_kind != Head::None && is_empty_from(line, head),
         is_moves: parts.is_moves,
         beside: seen_beside(label, has_words),
         is_solution,
-        is_final: is_solution && says(label, Wanted::Final),
+        is_final: is_solution && says(title, Wanted::Final),
         is_step: says(label, Wanted::Step) || says(&line[parts.comment..], Wanted::Step),
         is_whole: is_whole_scramble(body),
     }
@@ -288,29 +230,47 @@ fn line_behind(line: &[u8], head_kind: Head, head: usize) -> Line
 fn headed_line(line: &[u8], kind: Head, head: usize) -> Line
     requires { head ≤ length line.now }
     ensures length { result.length ≡ length line.now }
+    ensures head { result.head ≡ head }
+    ensures margin { BeginNoMoves (slice_range line.now head result.label_begin) }
+    ensures title { IsTitleEnd (slice_range line.now result.label_end result.moves) }
+    ensures blank { result.is_blank ≡ true → HasNoMoves (drop head line.now) }
+    ensures alone { result.is_head_alone ≡ true → HasNoMoves (drop head line.now) }
 {
-    let moves = head + blanks(&line[head..]);
-    let body = &line[moves..];
+    let rest = from_place(line, head);
+    let blank = blanks(rest);
+    let moves = head + blank;
+    let body = from_place(rest, blank);
     if body.is_empty() || are_plain_moves(body) {
         return Line::bare((kind, head), moves, line.len(), is_whole_scramble(body));
     }
     line_behind(line, kind, head)
 }
 
+/// Whether a line is plain moves, but of an E at its beginning: E2 may be an extra.
+fn is_bare(line: &[u8]) -> bool
+    ensures some { result ≡ true → 0 < length line.now }
+    ensures plain { ArePlain line.now → result ≡ true }
+{
+    are_plain_moves(line) && line[0] != b'E'
+}
+
 /// What is seen of a line. One that goes on with prose after its head has none.
 #[inline(never)]
 pub fn line_of(line: &[u8], numbers: Numbers) -> Line
-    ensures { result.length ≡ length line.now }
+    ensures length { result.length ≡ length line.now }
+    ensures kept { LosesNone line.now 0 result.head result.label_begin result.label_end result.moves }
+    ensures blank { result.is_blank ≡ true → HasNoMoves (drop result.head line.now) }
+    ensures alone { result.is_head_alone ≡ true → HasNoMoves (drop result.head line.now) }
+    ensures plain { ArePlain line.now → (result.is_moves ≡ true) × ((result.moves ≡ 0) × (result.comment ≡ result.length)) }
 {
-    // E2 may be an extra
-    if are_plain_moves(line) && line[0] != b'E' {
+    if is_bare(line) {
         return Line::bare((Head::None, 0), 0, line.len(), is_whole_scramble(line));
     }
     let begin = margin(line);
     if begin == line.len() {
         return Line::bare((Head::None, 0), begin, begin, false);
     }
-    let (kind, length) = head_of(&line[begin..], numbers);
+    let (kind, length) = head_of(from_place(line, begin), numbers);
     if kind != Head::None {
         let seen = headed_line(line, kind, begin + length);
         if seen.is_moves || seen.is_head_alone {
@@ -343,6 +303,11 @@ pub fn cut_line(text: &[u8], numbers: Numbers) -> (Line, usize)
     ensures whole { IsUnbroken text.now 0 result.0.length }
     ensures ends { result.1 ≡ result.0.length + end_size text.now result.0.length }
     ensures ended { IsEnd text.now result.0.length }
+    ensures kept { LosesNone (take result.0.length text.now) 0 result.0.head result.0.label_begin result.0.label_end result.0.moves }
+    ensures blank { result.0.is_blank ≡ true → HasNoMoves (drop result.0.head (take result.0.length text.now)) }
+    ensures alone { result.0.is_head_alone ≡ true → HasNoMoves (drop result.0.head (take result.0.length text.now)) }
+    ensures plain { ArePlain (take result.0.length text.now) →
+        (result.0.is_moves ≡ true) × ((result.0.moves ≡ 0) × (result.0.comment ≡ result.0.length)) }
 {
     let length = line_length(text);
     let line = line_of(&text[..length], numbers);

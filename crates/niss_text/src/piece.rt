@@ -4,7 +4,8 @@ ghost use Rattle.niss_text.specs.Pieces.{IsFirst, is_title};
 ghost use Rattle.niss_text.specs.declared.piece.Place.TheVariants.{Among};
 ghost use Rattle.niss_text.specs.Signs.{begins_number, begins_count};
 
-use crate::forms::{count_length, head_length, label_of, line_length, number_length};
+use crate::forms::{count_length, label_of, line_length};
+use crate::heads::{head_length, number_length};
 use crate::sign::{Kind, first_sign, is_digit_byte, is_letter_byte};
 
 /// What a piece is.

@@ -1,6 +1,7 @@
 //! The signs of a text: those that are told apart, however many bytes they have, and else single bytes.
-ghost use Rattle.std.specs.Prelude.{◌≡◌, ◌<◌, ◌≤◌, [], ◌∷◌, length, take, IfSome};
-ghost use Rattle.niss_text.specs.Signs.{IsSign, is_digit, is_letter};
+ghost use Rattle.std.specs.Prelude.{◌≡◌, ◌<◌, ◌≤◌, ◌-◌, ℕ, true, [], ◌∷◌, length, take, drop, slice_index, IfSome};
+ghost use Rattle.niss_text.specs.Signs.{IsSign, HasNoMoves, is_digit, is_letter, is_skipped};
+ghost use Rattle.niss_text.specs.declared.sign.Class.TheVariants.{Skipped};
 
 /// What a sign is. A byte that begins none of the longer ones is one by itself, also if it isn't UTF-8.
 #[derive(Clone, Copy, PartialEq, Eq)]
@@ -164,6 +165,7 @@ pub fn one_sign(text: &[u8]) -> Sign
     requires { 0 < length text.now }
     ensures some { 0 < result.length }
     ensures fits { result.length ≤ length text.now }
+    ensures is { IsSign result.kind (take result.length text.now) }
 {
     first_sign(text)
 }
@@ -192,7 +194,9 @@ pub fn is_letter_byte(byte: u8) -> bool
 }
 
 /// Whether a sign parts what stands beside it.
-pub fn is_skipped(kind: Kind) -> bool {
+pub fn is_skipped(kind: Kind) -> bool
+    ensures { result ≡ is_skipped kind }
+{
     matches!(kind, Kind::Blank | Kind::Unseen)
 }
 
@@ -230,7 +234,9 @@ pub enum Class {
 
 impl Class {
     /// Whether a sign is of it.
-    fn has(self, kind: Kind) -> bool {
+    fn has(self, kind: Kind) -> bool
+        ensures { self ≡ Skipped → result ≡ is_skipped kind }
+    {
         match self {
             Class::Skipped => is_skipped(kind),
             Class::Word => is_of_word(kind),
@@ -242,10 +248,21 @@ impl Class {
     }
 }
 
+/// What stands in a text from a place on.
+#[inline(always)]
+pub fn from_place(text: &[u8], at: usize) -> &[u8]
+    requires { at ≤ length text.now }
+    ensures { result.now ≡ drop at text.now }
+{
+    &text[at..]
+}
+
 /// What is after the signs of a class in front of a text.
 #[inline(never)]
 pub fn behind(text: &[u8], class: Class) -> &[u8]
-    ensures { length result.now ≤ length text.now }
+    ensures fits { length result.now ≤ length text.now }
+    ensures rest { result.now ≡ drop (length text.now - length result.now) text.now }
+    ensures skipped { class ≡ Skipped → HasNoMoves (take (length text.now - length result.now) text.now) }
 {
     // a loop for the one that is asked for most, which has only its test
     match class {
@@ -257,7 +274,9 @@ pub fn behind(text: &[u8], class: Class) -> &[u8]
 /// The same, to be compiled for one class.
 #[inline(always)]
 fn passed(text: &[u8], class: Class) -> &[u8]
-    ensures { length result.now ≤ length text.now }
+    ensures fits { length result.now ≤ length text.now }
+    ensures rest { result.now ≡ drop (length text.now - length result.now) text.now }
+    ensures skipped { class ≡ Skipped → HasNoMoves (take (length text.now - length result.now) text.now) }
 {
     let mut rest = text;
     while !rest.is_empty() {
@@ -265,7 +284,7 @@ fn passed(text: &[u8], class: Class) -> &[u8]
         if !class.has(sign.kind) {
             break;
         }
-        rest = &rest[sign.length..];
+        rest = from_place(rest, sign.length);
     }
     rest
 }
@@ -273,7 +292,9 @@ fn passed(text: &[u8], class: Class) -> &[u8]
 /// What is after blanks and what isn't seen in front of a text.
 #[inline(never)]
 pub fn trimmed(text: &[u8]) -> &[u8]
-    ensures { length result.now ≤ length text.now }
+    ensures fits { length result.now ≤ length text.now }
+    ensures rest { result.now ≡ drop (length text.now - length result.now) text.now }
+    ensures skipped { HasNoMoves (take (length text.now - length result.now) text.now) }
 {
     // most texts begin with none
     if !text.is_empty() && text[0] > b' ' && text[0] < 0x80 {
@@ -284,7 +305,8 @@ pub fn trimmed(text: &[u8]) -> &[u8]
 
 /// How many digits a text begins with.
 pub fn digits_length(text: &[u8]) -> usize
-    ensures { result ≤ length text.now }
+    ensures fits { result ≤ length text.now }
+    ensures digits { (k : ℕ) → k < result → is_digit (slice_index text.now k) ≡ true }
 {
     for (at, byte) in text.iter().enumerate() {
         if !is_digit_byte(*byte) {

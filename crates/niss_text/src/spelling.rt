@@ -1,4 +1,7 @@
 //! How far letters and signs spell moves.
+ghost use Rattle.std.specs.Prelude.{◌≡◌, true};
+ghost use Rattle.niss_text.specs.Doubts.{is_capital};
+
 use crate::sign::Kind;
 
 /// How far a word spells moves.
@@ -46,7 +49,9 @@ impl Spelling {
 }
 
 /// Whether a byte is the capital of a move.
-pub fn is_capital_move(byte: u8) -> bool {
+pub fn is_capital_move(byte: u8) -> bool
+    ensures { is_capital byte ≡ true → result ≡ true }
+{
     matches!(
         byte,
         b'U' | b'D' | b'R' | b'L' | b'F' | b'B' | b'M' | b'E' | b'S'

@@ -96,6 +96,9 @@ pub fn told_line(role: &Role, line: &Line, begin: usize) -> TextLine
     requires { begin + line.now.length ≤ usize.MAX }
     ensures is { IsLine begin result }
     ensures ends { result.end ≡ begin + line.now.length }
+    ensures head { result.head_end ≡ begin + line.now.head }
+    ensures label { (result.label_begin ≡ begin + line.now.label_begin) × (result.label_end ≡ begin + line.now.label_end) }
+    ensures moves { result.moves ≡ begin + line.now.moves }
     ensures comment { result.comment ≡ begin + line.now.comment }
     ensures undoubted { result.doubt_at ≡ result.end }
     ensures kind { result.kind ≡ number_of_kind role.now.kind }

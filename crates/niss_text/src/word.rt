@@ -1,5 +1,6 @@
 //! The words of a line: moves that stand alone, moves in one word, and words that are no moves.
 ghost use Rattle.std.specs.Prelude.{◌≡◌, ◌≤◌, ◌<◌, true, false, length, IfSome};
+ghost use Rattle.niss_text.specs.Kept.{ArePlain, follows};
 
 use crate::forms::count_length;
 use crate::sign::{Kind, first_kind, first_sign};
@@ -60,7 +61,9 @@ fn is_parting(kind: Kind) -> bool {
 }
 
 /// Whether a byte may follow another one where all is moves by capitals, each a word of its own.
-fn follows_moves(before: u8, byte: u8) -> bool {
+fn follows_moves(before: u8, byte: u8) -> bool
+    ensures { follows before byte ≡ true → result ≡ true }
+{
     match byte {
         b' ' => true,
         b'2' | b'\'' => before != b' ',
@@ -71,7 +74,8 @@ fn follows_moves(before: u8, byte: u8) -> bool {
 /// Whether a text is moves by capitals, each a word of its own: what most lines are, of which nothing else is to be told.
 #[inline(never)]
 pub fn are_plain_moves(text: &[u8]) -> bool
-    ensures { result ≡ true → 0 < length text.now }
+    ensures some { result ≡ true → 0 < length text.now }
+    ensures plain { ArePlain text.now → result ≡ true }
 {
     if text.is_empty() || text[0] == b' ' {
         return false;

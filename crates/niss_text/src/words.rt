@@ -1,10 +1,14 @@
 //! Words in a text, in capitals or small letters.
-ghost use Rattle.std.specs.Prelude.{◌≤◌, length};
+ghost use Rattle.std.specs.Prelude.{◌≡◌, ◌≤◌, ◌<◌, length, take, map};
+ghost use Rattle.std.specs.List.{Contains};
+ghost use Rattle.niss_text.specs.Kept.{small, words_of_head};
 
 use crate::sign::{Class, Kind, first_kind, is_letter_byte, length_of, trimmed};
 
 /// A letter of ASCII as a small one.
-fn small(byte: u8) -> u8 {
+fn small(byte: u8) -> u8
+    ensures { result ≡ small byte }
+{
     if byte >= b'A' && byte <= b'Z' {
         byte + 32
     } else {
@@ -15,7 +19,8 @@ fn small(byte: u8) -> u8 {
 /// How many bytes this word has, which is written in small letters, if a text begins with it; else 0.
 #[inline(never)]
 pub fn word_length(text: &[u8], word: &[u8]) -> usize
-    ensures { result ≤ length text.now }
+    ensures fits { result ≤ length text.now }
+    ensures word { 0 < result → map small (take result text.now) ≡ word.now }
 {
     if text.len() < word.len() {
         return 0;
@@ -253,7 +258,8 @@ fn begins_insertion(text: &[u8], is_beyond: bool) -> bool {
 
 /// How many bytes the word has that stands before each of several scrambles, if a text begins with one; else 0.
 pub fn head_word_length(text: &[u8]) -> usize
-    ensures { result ≤ length text.now }
+    ensures fits { result ≤ length text.now }
+    ensures word { 0 < result → Contains words_of_head (map small (take result text.now)) }
 {
     if text.is_empty() {
         return 0;

@@ -1,0 +1,15 @@
+use Rattle.niss_text.proofs.KeptLemmas.{kept_blank, kept_headed}
+use Rattle.niss_text.proofs.line.line_of.Goals as goal
+
+pub returns-then-begin-line-clause-kept : goal.returns-then-begin-line-clause-kept
+returns-then-begin-line-clause-kept c =
+    let bare = c.bare-then-begin-line in
+    kept_blank c.args.line.now bare.result.head bare.result.label_begin bare.result.label_end bare.result.moves c.margin-begin.result bare.ensures.head
+    bare.ensures.label.0 bare.ensures.label.1.0 bare.ensures.label.1.1 c.margin-begin.ensures.empty
+
+pub returns-then-seen-clause-kept : goal.returns-then-seen-clause-kept
+returns-then-seen-clause-kept c =
+    let seen = c.headed_line-seen in
+    kept_headed c.args.line.now c.from_place.result.now c.margin-begin.result c.head_of-kind.result.1 seen.result.head seen.result.label_begin
+    seen.result.label_end seen.result.moves seen.ensures.head c.margin-begin.ensures.empty c.from_place.ensures c.head_of-kind.ensures.words
+    seen.ensures.margin seen.ensures.title

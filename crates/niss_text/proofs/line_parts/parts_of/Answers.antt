@@ -1,0 +1,36 @@
+use Rattle.std.proofs.Common.{ℕ, List, ◌≡◌, ◌+◌, ◌-◌, ◌≤◌, take, slice_range, sym, ◌∙◌, subst, arith}
+use Rattle.niss_text.specs.Signs.{HasNoMoves}
+use Rattle.niss_text.specs.Kept.{IsTitleEnd}
+use Rattle.niss_text.proofs.KeptLemmas.{blank_title, whole_title, part_long}
+use Rattle.niss_text.proofs.line_parts.parts_of.Goals.{then-words-eq0, else-words-eq0, then-span-eq0, else-span-eq0}
+use Rattle.niss_text.proofs.line_parts.parts_of.Goals as goal
+
+pub returns-clause-title : goal.returns-clause-title
+returns-clause-title c =
+    let line : List ℕ = c.args.line.now in
+    let begin : ℕ = c.args.head + c.numbering.result in
+    let words : ℕ = c.title_of-words.result.0 in
+    let title : ℕ = c.title_of-words.result.1 in
+    let span = c.span_of-span.result in
+    let lead : ℕ = begin + title + span.begin in
+    let comment : ℕ = begin + title + span.end in
+    let blanks : ℕ = c.blanks.result in
+    let slashes : ℕ = c.args.head + c.comment_at.result in
+    let fits : blanks ≤ comment - lead = omega (arith, c.blanks.ensures.fits, part_long line lead comment) in
+    elim c.if-span-eq0.branch [
+      | then-span-eq0 w ↦
+          let none : span.begin ≡ 0 = w.if-span-eq0.true in
+          let there : lead ≡ begin + title = omega (arith, none) in
+          let label_end : c.if-span-eq0.result ≡ begin + words = w.result-is ∙ elim c.if-words-eq0.branch [
+            | then-words-eq0 v ↦ v.title_end-is ∙ omega (arith, none, v.if-words-eq0.true, c.title_of-words.ensures.none v.if-words-eq0.true)
+            | else-words-eq0 v ↦ v.title_end-is
+          ] in
+          subst (λ n. IsTitleEnd (slice_range line n (lead + blanks))) (sym label_end)
+          (subst (λ n. IsTitleEnd (slice_range line (begin + words) (n + blanks))) (sym there)
+          (whole_title line begin slashes words title blanks comment c.title_of-words.ensures.order
+          (omega (arith, c.title_of-words.ensures.fits, part_long line begin slashes)) c.title_of-words.ensures.end
+          (subst (λ n. blanks ≤ comment - n) there fits)
+          (subst (λ n. HasNoMoves (take blanks (slice_range line n comment))) there c.blanks.ensures.empty)))
+      | else-span-eq0 w ↦
+          subst (λ n. IsTitleEnd (slice_range line n (lead + blanks))) (sym w.result-is) (blank_title line lead comment blanks fits c.blanks.ensures.empty)
+    ]

@@ -1,0 +1,66 @@
+-- What stands in a line before its moves, in its head and between its parts: none of its moves.
+use Rattle.std.specs.Prelude.{◌≡◌, ℕ, ◌+◌, ◌<◌, ◌⊎◌, ◌==◌, Bool, true, false, ◌||◌, ◌&&◌, not, List, [], ◌∷◌, ◌++◌, length, map, slice_index, slice_range, if◌then◌else◌, codes}
+use Rattle.std.specs.List.{All, Contains, concat, list_any}
+use Rattle.niss_text.specs.Signs.{HasNoMoves, is_within, begins_count}
+use Rattle.niss_text.specs.Doubts.{is_capital}
+
+-- a letter of ASCII, and it as a small one
+unfoldable pub spells : ℕ → Bool
+spells b = is_within 65 90 b || is_within 97 122 b
+
+abbrev pub small : ℕ → ℕ
+small b = if is_within 65 90 b then b + 32 else b
+
+-- a byte that moves begin with: a letter of ASCII, or an opened bracket
+unfoldable pub begins_moves : ℕ → Bool
+begins_moves b = (b == 40) || spells b
+
+abbrev pub HasNoLetters : List ℕ → Type 0
+HasNoLetters bytes = list_any spells bytes ≡ false
+
+abbrev pub BeginNoMoves : List ℕ → Type 0
+BeginNoMoves bytes = list_any begins_moves bytes ≡ false
+
+-- Bytes have no letters of ASCII but those of some words, in capitals or small letters: they are parts, each of which
+-- is such a word or has none.
+pub record HasOnlyWords (words : List (List ℕ)) (bytes : List ℕ) : Type 0 where
+  pub parts : List (List ℕ)
+  pub whole : concat parts ≡ bytes
+  pub each : All (λ part. HasNoLetters part ⊎ Contains words (map small part)) parts
+
+-- the words of a head, and the letter before a number of an extra
+abbrev pub words_of_head : List (List ℕ)
+words_of_head = codes "scramble" ∷ codes "attempt" ∷ codes "extra" ∷ codes "of" ∷ codes "e" ∷ []
+
+abbrev pub words_of_count : List (List ℕ)
+words_of_count = codes " moves" ∷ codes " move" ∷ []
+
+-- A number of moves begins with a bracket and a digit, and has no letters but those of its word.
+abbrev pub IsCount : List ℕ → Type 0
+IsCount bytes = (begins_count (slice_index bytes 0) (slice_index bytes 1) ≡ true) × HasOnlyWords words_of_count bytes
+
+-- What may stand between a label and the moves: a number of moves, and after it nothing that moves are made of.
+pub record IsTitleEnd (bytes : List ℕ) : Type 0 where
+  pub count : List ℕ
+  pub rest : List ℕ
+  pub whole : count ++ rest ≡ bytes
+  pub counted : (count ≡ []) ⊎ IsCount count
+  pub empty : HasNoMoves rest
+
+-- No move is lost before the moves of a line, which has its parts there: a head has no letters but those of its words,
+-- no byte that moves begin with stands between it and the label, and none between that and the moves but in a number of
+-- moves.
+pub record LosesNone (text : List ℕ) (begin head_end label_begin label_end moves : ℕ) : Type 0 where
+  pub head : HasOnlyWords words_of_head (slice_range text begin head_end)
+  pub margin : BeginNoMoves (slice_range text head_end label_begin)
+  pub title : IsTitleEnd (slice_range text label_end moves)
+
+-- a byte of moves by capitals may follow another
+abbrev pub follows : ℕ → ℕ → Bool
+follows a b = (b == 32) || (((a == 32) && is_capital b) || ((not (a == 32)) && ((b == 50) || (b == 39))))
+
+-- Bytes are moves by capitals, with blanks between: each byte is a blank, the letter of an outer turn after one or at
+-- the beginning, or a 2 or an apostrophe after one of these.
+pub record ArePlain (bytes : List ℕ) : Type 0 where
+  pub first : is_capital (slice_index bytes 0) ≡ true
+  pub each : (k : ℕ) → k + 1 < length bytes → follows (slice_index bytes k) (slice_index bytes (k + 1)) ≡ true

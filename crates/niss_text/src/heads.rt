@@ -1,0 +1,181 @@
+//! What stands in front of a line before its label: its number, and what tells a scramble from others.
+ghost use Rattle.std.specs.Prelude.{◌≡◌, ◌≤◌, ◌-◌, length, take, drop};
+ghost use Rattle.niss_text.specs.Kept.{BeginNoMoves, HasOnlyWords, words_of_head};
+
+use crate::forms::{is_parted, mark_length, sign_length};
+use crate::sign::{Kind, digits_length, first_kind, from_place, trimmed};
+use crate::words::{head_word_length, word_length};
+
+/// How many bytes a sign has that may end a number in front of a text; else 0.
+fn point_length(text: &[u8]) -> usize
+    ensures fits { result ≤ length text.now }
+    ensures begin { BeginNoMoves (take result text.now) }
+{
+    let point = mark_length(text, b'.');
+    if point > 0 {
+        return point;
+    }
+    let bracket = mark_length(text, b')');
+    if bracket > 0 {
+        return bracket;
+    }
+    sign_length(text, Kind::Colon)
+}
+
+/// How many bytes a sign has that ends a number in front of a text, if no digit follows it; else 0.
+#[inline(never)]
+fn number_end_length(text: &[u8]) -> usize
+    ensures fits { result ≤ length text.now }
+    ensures begin { BeginNoMoves (take result text.now) }
+{
+    let end = point_length(text);
+    if end > 0 && first_kind(&text[end..]) != Kind::Digit {
+        end
+    } else {
+        0
+    }
+}
+
+/// How many bytes the number of a line has in front of it, such as `2.` or `#2`; 0 if there is none.
+#[inline(never)]
+pub fn number_length(line: &[u8]) -> usize
+    ensures fits { result ≤ length line.now }
+    ensures begin { BeginNoMoves (take result line.now) }
+{
+    let mark = mark_length(line, b'#');
+    let number = from_place(line, mark);
+    let digits = digits_length(number);
+    if digits == 0 {
+        return 0;
+    }
+    let rest = from_place(number, digits);
+    let end = number_end_length(rest);
+    if end > 0 || (mark > 0 && is_parted(rest)) {
+        mark + digits + end
+    } else {
+        0
+    }
+}
+
+/// How many bytes an opened bracket has in front of a line, or the letter of an extra in a list that has some; else 0.
+fn list_mark_length(line: &[u8], has_extras: bool) -> usize
+    ensures fits { result ≤ length line.now }
+    ensures words { HasOnlyWords words_of_head (take result line.now) }
+{
+    let bracket = mark_length(line, b'(');
+    if bracket > 0 || !has_extras {
+        bracket
+    } else {
+        mark_length(line, b'E')
+    }
+}
+
+/// How many bytes a number has that stands before one of several scrambles and isn't the number of a line, such as `2`,
+/// `(2)` or, in a list with such extras, `E2`; 0 if there is none.
+pub fn listed_length(line: &[u8], has_extras: bool) -> usize
+    ensures fits { result ≤ length line.now }
+    ensures words { HasOnlyWords words_of_head (take result line.now) }
+{
+    let mark = list_mark_length(line, has_extras);
+    let number = from_place(line, mark);
+    let digits = digits_length(number);
+    if digits == 0 {
+        return 0;
+    }
+    let rest = from_place(number, digits);
+    let end = number_end_length(rest);
+    if end > 0 || is_parted(rest) {
+        mark + digits + end
+    } else {
+        0
+    }
+}
+
+/// How many bytes a slash or "of" has in front of a text; else 0.
+fn of_length(text: &[u8]) -> usize
+    ensures fits { result ≤ length text.now }
+    ensures words { HasOnlyWords words_of_head (take result text.now) }
+{
+    let slash = mark_length(text, b'/');
+    if slash > 0 {
+        slash
+    } else {
+        word_length(text, b"of")
+    }
+}
+
+/// What is after "of 3" or "/3" in front of a line, or the line itself.
+fn behind_total(line: &[u8]) -> &[u8]
+    ensures fits { length result.now ≤ length line.now }
+    ensures rest { result.now ≡ drop (length line.now - length result.now) line.now }
+    ensures words { HasOnlyWords words_of_head (take (length line.now - length result.now) line.now) }
+{
+    let word = trimmed(line);
+    let of = of_length(word);
+    let number = trimmed(from_place(word, of));
+    let digits = digits_length(number);
+    if of == 0 || digits == 0 {
+        line
+    } else {
+        from_place(number, digits)
+    }
+}
+
+/// How many bytes the sign has in front of a text that ends a head; else 0.
+fn end_length(text: &[u8]) -> usize
+    ensures fits { result ≤ length text.now }
+    ensures begin { BeginNoMoves (take result text.now) }
+{
+    let dash = sign_length(text, Kind::Dash);
+    if dash > 0 {
+        dash
+    } else {
+        number_end_length(text)
+    }
+}
+
+/// What is after the sign that ends a head, or the line itself.
+fn behind_end(line: &[u8]) -> &[u8]
+    ensures fits { length result.now ≤ length line.now }
+    ensures rest { result.now ≡ drop (length line.now - length result.now) line.now }
+    ensures begin { BeginNoMoves (take (length line.now - length result.now) line.now) }
+{
+    let sign = trimmed(line);
+    let end = end_length(sign);
+    if end == 0 {
+        line
+    } else {
+        from_place(sign, end)
+    }
+}
+
+/// How many bytes the word before a scramble has in front of a line, with its number, such as `Attempt 1 of 3`, or with
+/// a colon; 0 if there is none.
+pub fn head_length(line: &[u8]) -> usize
+    ensures fits { result ≤ length line.now }
+    ensures words { HasOnlyWords words_of_head (take result line.now) }
+{
+    let word = head_word_length(line);
+    if word == 0 {
+        return 0;
+    }
+    let number = trimmed(from_place(line, word));
+    let colon = sign_length(number, Kind::Colon);
+    if colon > 0 {
+        return line.len() - number.len() + colon;
+    }
+    let mark = mark_length(number, b'#');
+    let marked = from_place(number, mark);
+    let digits = digits_length(marked);
+    if digits == 0 {
+        return 0;
+    }
+    let rest = from_place(marked, digits);
+    let total = behind_total(rest);
+    let end = behind_end(total);
+    if end.len() < total.len() || is_parted(end) {
+        line.len() - end.len()
+    } else {
+        0
+    }
+}
