@@ -32,7 +32,7 @@ struct Attempt {
     numbers: Numbers,
     /// Prose before its scramble is told from it: it has a name, or steps.
     is_formed: bool,
-    /// Nothing solves its scramble, which isn't whole, though another of the text is.
+    /// Nothing solves its scramble, or that says that it is a step, and it isn't whole, though another of the text is.
     is_strange: bool,
     solution: Option<usize>,
     /// Where a line after the scramble begins that may be of one.
@@ -59,7 +59,7 @@ fn first_attempt(text: &[u8], numbers: Numbers, number: usize, has_whole: bool) 
         number,
         numbers,
         is_formed: seen.has_name || solutions.has_lines,
-        is_strange: has_whole && !seen.is_whole() && !solutions.has_moves(),
+        is_strange: has_whole && !seen.is_whole() && (seen.is_step || !solutions.has_moves()),
         solution: if seen.has_several {
             None
         } else {

@@ -100,8 +100,7 @@ pub fn begin_with_letter_of_words(moves: &[u8], words: &[u8]) -> bool {
     if !is_letter_alone(&moves[..first]) {
         return false;
     }
-    let word = word_at_end(words);
-    word.len() > 1 && !is_step_name(word)
+    word_at_end(words).len() > 1
 }
 
 /// Where moves end with a turn of the cube that may say how many times they are made, such as `x2`.

@@ -126,6 +126,8 @@ pub struct Outline {
     whole: usize,
     pub has_name: bool,
     has_sign: bool,
+    /// Its scramble says that it is a step.
+    pub is_step: bool,
     pub has_several: bool,
     is_found: bool,
     numbers: Numbers,
@@ -143,6 +145,7 @@ impl Outline {
             is_found: false,
             has_name: false,
             has_sign: false,
+            is_step: false,
             has_several: false,
             numbers,
         }
@@ -161,6 +164,7 @@ impl Outline {
             seen.has_name = self.has_name || is_head(line) || seen.whole > 0;
             seen.has_several = !seen.has_name && (self.has_several || names_solutions(text, line));
             seen.has_sign = line.beside == Beside::Signs;
+            seen.is_step = line.is_step;
             seen.is_found = line.is_moves;
             seen.first = at;
         }
