@@ -160,7 +160,7 @@ def main() -> None:
                 seen.update(line.partition("@")[0] for line in parts(wanted)[DOUBTS].split("\n"))
             for host, told in zip(hosts[1:], of_others):
                 compare(tally, host, portion, told, of_first)
-    tally.holds(f"each kind of doubt is there: {seen}", count < 10_000 or len(seen) == 10)
+    tally.holds(f"each kind of doubt is there: {seen}", count < 10_000 or len(seen) == 13)
     for host in hosts:
         tally.equal(f"{host.name} ends, and has said no more", host.end(), 0)
     tally.end()

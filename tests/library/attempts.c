@@ -110,6 +110,12 @@ static void checks_of_attempts(void) {
     has_check(STEPS, NULL, NONE, 0, (uint64_t[]){NO, 0, 0, 0, 3, NO, 9, NISSY_A_PART, 1, 1, NISSY_DONE, 0, 0});
     has_check("1. R U F F' U' R'", NULL, NONE, 0, (uint64_t[]){NO, 0, 0, 0, 1, NO, 3, NISSY_ANOTHER_SCRAMBLE, 1, 0, NISSY_DONE, 0, 1});
     has_check("1. R Q\n2. R U", NULL, NONE, 0, (uint64_t[]){NO, 0, 0, 0, 1, 5, NO, 0, 0, 0, NISSY_FAULT, 1, 0});
+    /* a scramble on two lines, or one of which the second may be a step; and a second attempt that isn't told from the first one */
+    static const char WRAPPED[] = "U2 B' R2 U2 D2 R F' U' F U2 B2 D2\nU2 F U' L D' U2 R2 F' U' L2 R'\n"
+                                  "R L2 U F // EO\nR2 U2 D L' U F' U2 D2 // DR\nB2 U2 F' U F R' D2 U2 R2 B U2",
+                      MERGED[] = "R U\nU' R' // end\nU2 F U' L D' U2 R2 F' U' L2 R' D2 F2 R2 U\nU' R2 F2 D2 R L2 U F R2 U2 D L' U F' U2 // end";
+    has_check(WRAPPED, NULL, NONE, 0, (uint64_t[]){NO, 0, 0, 0, 5, NO, 34, NISSY_STEP_OR_SCRAMBLE, 1, 1, NISSY_DONE, 0, 1});
+    has_check(MERGED, NULL, NONE, 0, (uint64_t[]){NO, 0, 0, 0, 4, NO, 17, NISSY_ANOTHER_ATTEMPT, 1, 1, NISSY_DONE, 0, 1});
     nissy_text_line lines[3];
     const nissy_text_answer sheet = nissy_text_lines((const uint8_t *)STEPS, sizeof STEPS - 1, lines, 3);
     const nissy_attempts_answer none =

@@ -40,6 +40,11 @@ SIDES = "Inverse|Reverse|Inverted|Inversed|Inverso|Invers|Other side|Second side
     "|"
 )
 COMMENTS = "on inverse|DR (inv)|NISS|premoves|inverse|reverse|on the inverse|DR on inv|EOinv".split("|")
+# a scramble that neither begins nor ends with R' U' F, and its steps; the same of another one
+FREE = "U2 B' R2 U2 D2 R F' U' F U2 B2 D2\nU2 F U' L D' U2 R2 F' U' L2 R'"
+FREE_STEPS = "R L2 U F // EO\nR2 U2 D L' U F' U2 D2 // DR\nB2 U2 F' U F R' D2 U2 R2 B U2 // finish"
+OTHER = "F2 U2 L D F U' R2 B L R2 U2 B' D' R F L B2 D F' B' U2 D F2"
+OTHER_STEPS = "F2 D' U2 B // EO\nF D' B2 L' F' R' D B // DR\nU2 R2 L' B' R2 U F' D' L' U2 F2 // finish"
 # how many are read right, of the table and of those that words make: what is stays so
 LEAST_RIGHT, LEAST_RIGHT_BY_WORDS = 344, 117
 WORDS = "F2L LL xD BLD LUL FML LS ELL SB Dry Bu DR FR EO".split()
@@ -147,6 +152,15 @@ def doubts(tally: Tally) -> None:
         "R U F\n\nF' R' *\n* = U' D D'": ("insertion", 3, 7),
         "R U F\n\nF' R' // Skelett": ("insertion", 3, 10),
         "R U F\n\nAnna: F' U' R'\nBert: F' U' D": ("a part", 3, 7),
+        f"{FREE}\n{FREE_STEPS}": ("step or scramble", 2, 1),
+        f"{OTHER}\n{OTHER_STEPS}\n\n{OTHER}\n{OTHER_STEPS}": ("step or scramble", 6, 1),
+        f"{OTHER}\n{OTHER_STEPS}\n---\n{OTHER}\n{OTHER_STEPS}": ("another attempt", 6, 1),
+        "1. R U\n1. U' R'\n\n2. F D\n1. D' F'": ("another attempt", 1, 4),
+        "R U F\n\nF' U, R' D": ("signs", 3, 5),
+        "R U F\n\nhttps://cubing/?alg=F-_U-": ("signs", 3, 1),
+        "R U F\n\nSolution: \uff26 \uff35": ("signs", 3, 11),
+        "R U F\n\nF' U R in chat": ("comment", 3, 6),
+        "R U F\n\nsquare F F' U'": ("comment", 3, 8),
         "R U F D L B U2 R2\n\n\u2191 R2 U2\n\u2193 R U\n\u2191 B' L'\n\u2193 F D": ("a part", 4, 3),
     }
     for text, wanted in texts.items():
