@@ -6,7 +6,7 @@ ghost use Rattle.niss_text.specs.Moves.{is_wanted, number_of_moves, most_bytes};
 ghost use Rattle.niss_text.specs.declared.moves.MovesOf.{MovesOf};
 ghost use Rattle.niss_text.specs.declared.moves.MovesOf.TheVariants.{Solution};
 ghost use Rattle.niss_embed.specs.Attempts.{AreWritten, IsChecked, IsDoubt, IsOwn, doubt, is_solved, no_doubt, no_place};
-ghost use Rattle.niss_embed.specs.Attempts.{first_doubt, fault_place, outcome_of, counts, doubt_of_part, IsDoubtOfSteps};
+ghost use Rattle.niss_embed.specs.Attempts.{first_doubt, fault_place, outcome_of, counts, doubt_of_part, told_from, IsBegunAgain, IsDoubtOfSteps};
 ghost use Rattle.niss_embed.specs.Attempts.{IsDoubtOfSolved, IsDoubtOfUnsolved};
 
 use crate::another::lines_before_another;
@@ -127,6 +127,19 @@ impl Doubt {
         }
     }
 
+    /// The doubt that another attempt begins in the first of some lines, if what stands before it solves.
+    fn of_another(lines: &[TextLine], is_solved: bool) -> Doubt
+        ensures { result ≡ told_from is_solved lines.now }
+    {
+        match lines.first() {
+            Some(line) if is_solved => Doubt {
+                reason: ANOTHER_ATTEMPT,
+                at: line.moves,
+            },
+            _ => Doubt::none(),
+        }
+    }
+
     /// The doubt that a part solves which begins at a byte of the steps, by the place of each of these.
     fn of_part(part: &PartAnswer, places: &[u64]) -> Doubt
         ensures { result ≡ doubt_of_part part.now places.now }
@@ -226,6 +239,24 @@ fn doubt_of_steps(
     Some(Doubt::of_part(&part, &places[..count]))
 }
 
+/// What makes one doubt an attempt that is solved: that it is so before a line in which another one may begin.
+#[tactic(auto, using(crate::proofs::AttemptLemmas::most_first))]
+fn doubt_of_another(
+    text: &[u8],
+    lines: &[TextLine],
+    scramble: &[u8],
+    out: &mut [u8],
+    places: &mut [u64],
+) -> Option<Doubt>
+    ensures are { IfSome result (λ told. IsBegunAgain text.now lines.now scramble.now told) }
+    ensures room { most_bytes lines.now ≤ length out.old → most_bytes lines.now ≤ length places.old → IsSome result }
+{
+    let (before, another) = lines.split_at(lines_before_another(lines));
+    let count = moves_of(text, before, OF_SOLUTION, out, places)?;
+    let check = check_line(scramble, &out[..count]);
+    Some(Doubt::of_another(another, check.solved))
+}
+
 impl Given<'_> {
     /// Whether the scramble stands in the text, and by itself is solved: the solution may stand in it.
     fn is_solved(&self) -> bool
@@ -253,15 +284,7 @@ impl Given<'_> {
                 at: place_at(self.places, 0),
             });
         }
-        let before = lines_before_another(lines);
-        let count = moves_of(text, &lines[..before], OF_SOLUTION, out, places)?;
-        match lines[before..].first() {
-            Some(line) if check_line(self.scramble, &out[..count]).solved => Some(Doubt {
-                reason: ANOTHER_ATTEMPT,
-                at: line.moves,
-            }),
-            _ => Some(Doubt::none()),
-        }
+        doubt_of_another(text, lines, self.scramble, out, places)
     }
 
     /// What makes one doubt the attempt if it isn't solved.
