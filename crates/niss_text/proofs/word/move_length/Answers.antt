@@ -1,4 +1,4 @@
-use Rattle.std.proofs.Common.{◌≡◌, ◌<◌, ◌==◌, ◌||◌, ◌∙◌, sym, true, false, ℕ, List, get_or, inl, inr, arith}
+use Rattle.std.proofs.Common.{◌∙◌, sym, inl, inr}
 use Rattle.std.proofs.lemmas.Bool.{false≢true}
 use Rattle.niss_text.proofs.WordLemmas.{move_parts}
 use Rattle.niss_text.proofs.word.move_length.Goals.{else-ends_move-via-then-ends_move+else-ends_word-2, else-ends_move-via-else-ends_move}
