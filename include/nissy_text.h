@@ -58,12 +58,12 @@ enum nissy_doubt {
 };
 
 /* A line of such a text. The places are in bytes of the text, from 0, and don't fall from one to the next, nor from line to line. Its moves
- * stand from `moves` to `comment`; nissy_text_moves writes them. */
+ * stand from `moves` to `comment`; nissy_text_moves writes them. No letter of ASCII stands between its parts but that of a number of moves. */
 typedef struct nissy_text_line {
     uint8_t kind;     /* one of nissy_line_kind */
     uint8_t solution; /* it is of the group that is the solution */
     uint8_t headed;   /* a head stands before head_end, such as "2." or "Scramble 2:": the first one of an attempt is its name */
-    uint8_t labelled; /* its label, from label_begin to label_end, says that the solution follows */
+    uint8_t labelled; /* its label, from label_begin to label_end, says up to a colon that the solution follows */
     uint8_t inverse;  /* it is said of this step that it is on the inverse, and it has no brackets */
     uint8_t doubt;    /* one of nissy_doubt: of a line of the scramble or of the solution; of any step or note if it can't be seen which of them are
                        * the solution. It counts if no solution solves the scramble */

@@ -2,6 +2,7 @@ pub mod SignLemmas
 pub mod PlainLemmas
 pub mod LineLemmas
 pub mod KeptLemmas
+pub mod WordLemmas
 pub mod ToldLemmas
 pub mod DoubtLemmas
 pub mod MovesLemmas

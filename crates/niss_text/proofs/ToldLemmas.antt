@@ -3,7 +3,7 @@ use Rattle.std.proofs.Common.{◌≡◌, ℕ, zero, suc, ◌+◌, ◌≤◌, ◌
 use Rattle.std.proofs.lemmas.Bool.{false≢true}
 use Rattle.niss_text.specs.Signs.{HasNoMoves}
 use Rattle.niss_text.specs.Doubts.{IsDoubted}
-use Rattle.niss_text.specs.Kept.{BeginNoMoves, HasOnlyWords, IsTitleEnd, LosesNone, ArePlain, words_of_head}
+use Rattle.niss_text.specs.Kept.{BeginNoMoves, HasOnlyWords, IsTitleEnd, LosesNone, ArePlain, begins_with_move, words_of_head}
 use Rattle.niss_text.specs.Lines.{IsTold}
 use Rattle.niss_text.specs.declared.line.Line.{Line}
 use Rattle.niss_text.specs.declared.text_line.TextLine.{TextLine}
@@ -24,6 +24,7 @@ pub record IsSeen (bytes : List ℕ) (seen : Line) : Type 0 where
   pub kept : LosesNone bytes 0 seen.head seen.label_begin seen.label_end seen.moves
   pub blank : seen.is_blank ≡ true → HasNoMoves (drop seen.head bytes)
   pub alone : seen.is_head_alone ≡ true → HasNoMoves (drop seen.head bytes)
+  pub comment : begins_with_move (drop seen.comment bytes) ≡ false
   pub plain : ArePlain bytes → (seen.is_moves ≡ true) × ((seen.moves ≡ 0) × (seen.comment ≡ seen.length))
 
 -- what kind of a line it is
@@ -61,6 +62,9 @@ is_told text now seen line fits at is has known doubted = record {
   blank = λ none. subst (λ n. HasNoMoves (slice_range text n line.end)) (sym at.head)
       (subst (λ n. HasNoMoves (slice_range text (now + seen.head) n)) (sym at.end)
       (subst (λ v. HasNoMoves v) (rest_of_line text now seen.length seen.head head fits) (empty (has.blank none))));
+  comment = subst (λ n. begins_with_move (slice_range text n line.end) ≡ false) (sym at.comment)
+      (subst (λ n. begins_with_move (slice_range text (now + seen.comment) n) ≡ false) (sym at.end)
+      (subst (λ v. begins_with_move v ≡ false) (rest_of_line text now seen.length seen.comment (omega (arith, seen.comment_in, seen.slashes_in)) fits) is.comment));
   plain = λ plain. by_plain (whole plain);
 }
   where

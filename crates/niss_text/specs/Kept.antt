@@ -1,5 +1,5 @@
 -- What stands in a line before its moves, in its head and between its parts: none of its moves.
-use Rattle.std.specs.Prelude.{◌≡◌, ℕ, ◌+◌, ◌<◌, ◌⊎◌, ◌==◌, Bool, true, false, ◌||◌, ◌&&◌, not, List, [], ◌∷◌, ◌++◌, length, map, slice_index, slice_range, if◌then◌else◌, codes}
+use Rattle.std.specs.Prelude.{◌≡◌, ℕ, ◌+◌, ◌<◌, ◌⊎◌, ◌==◌, Bool, true, false, ◌||◌, ◌&&◌, not, List, [], ◌∷◌, ◌++◌, length, drop, map, slice_index, slice_range, if◌then◌else◌, codes}
 use Rattle.std.specs.List.{All, Contains, concat, list_any}
 use Rattle.niss_text.specs.Signs.{HasNoMoves, is_within, begins_count}
 use Rattle.niss_text.specs.Doubts.{is_capital}
@@ -64,3 +64,17 @@ follows a b = (b == 32) || (((a == 32) && is_capital b) || ((not (a == 32)) && (
 pub record ArePlain (bytes : List ℕ) : Type 0 where
   pub first : is_capital (slice_index bytes 0) ≡ true
   pub each : (k : ℕ) → k + 1 < length bytes → follows (slice_index bytes k) (slice_index bytes (k + 1)) ≡ true
+
+-- a text ends, or goes on with a blank
+unfoldable pub is_over : List ℕ → Bool
+is_over [] = true
+is_over (b ∷ bytes) = b == 32
+
+-- a text begins with a move by itself: a capital letter of an outer turn, after which it may have a 2 or an apostrophe
+unfoldable pub begins_with_move : List ℕ → Bool
+begins_with_move text = is_capital (slice_index text 0) &&
+    (is_over (drop 1 text) || (((slice_index text 1 == 50) || (slice_index text 1 == 39)) && is_over (drop 2 text)))
+
+-- at a place that is one, no move by itself stands
+abbrev pub IsNoMove : List ℕ → Bool → ℕ → Type 0
+IsNoMove text is at = is ≡ true → begins_with_move (drop at text) ≡ false

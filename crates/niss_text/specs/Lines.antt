@@ -2,7 +2,7 @@
 use Rattle.std.specs.Prelude.{◌≡◌, ℕ, zero, suc, ◌==◌, ◌+◌, ◌<◌, ◌≤◌, ◌⊎◌, ◌&&◌, true, false, if◌then◌else◌, List, [], ◌∷◌, length, slice_index, slice_range}
 use Rattle.niss_text.specs.Signs.{ends_line, HasNoMoves}
 use Rattle.niss_text.specs.Doubts.{IsDoubted}
-use Rattle.niss_text.specs.Kept.{LosesNone, ArePlain}
+use Rattle.niss_text.specs.Kept.{LosesNone, ArePlain, begins_with_move}
 use Rattle.niss_text.specs.declared.text_line.TextLine.{TextLine}
 
 -- A line that begins there. Its parts stand in this order, and none overlaps another. Only a step is on the inverse.
@@ -27,11 +27,13 @@ pub record IsPlacedAs (line other : TextLine) : Type 0 where
   pub moves : (other.moves ≡ line.moves) × (other.comment ≡ line.comment)
 
 -- What is told of a line of a text: what makes one doubt it. It loses no move before its moves; nothing that moves are
--- made of stands in a blank one after its head; and one that is plain moves is of a scramble or a step, all of it.
+-- made of stands in a blank one after its head; what is said after the moves doesn't begin with a move by itself; and a
+-- line that is plain moves is of a scramble or a step, all of it.
 pub record IsTold (text : List ℕ) (line : TextLine) : Type 0 where
   pub doubted : IsDoubted text line
   pub kept : LosesNone text line.begin line.head_end line.label_begin line.label_end line.moves
   pub blank : line.kind ≡ 0 → HasNoMoves (slice_range text line.head_end line.end)
+  pub comment : begins_with_move (slice_range text line.comment line.end) ≡ false
   pub plain : ArePlain (slice_range text line.begin line.end) →
       ((line.kind ≡ 2) ⊎ (line.kind ≡ 3)) × ((line.moves ≡ line.begin) × (line.comment ≡ line.end))
 

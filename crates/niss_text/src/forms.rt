@@ -129,13 +129,16 @@ fn ends_line(byte: u8) -> bool
 }
 
 /// Whether a text begins with a comment.
-pub fn begins_comment(text: &[u8]) -> bool {
+pub fn begins_comment(text: &[u8]) -> bool
+    ensures { result ≡ true → slice_index text.now 0 ≡ 47 }
+{
     text.len() > 1 && text[0] == b'/' && text[1] == b'/'
 }
 
 /// How many bytes stand before the comment of a line.
 pub fn comment_at(line: &[u8]) -> usize
-    ensures { result ≤ length line.now }
+    ensures fits { result ≤ length line.now }
+    ensures slash { result < length line.now → slice_index line.now result ≡ 47 }
 {
     let mut rest = line;
     while !rest.is_empty() {

@@ -1,7 +1,7 @@
 //! A line of a text: where its parts are, and what is seen of it.
 ghost use Rattle.std.specs.Prelude.{◌≡◌, ◌≤◌, ◌<◌, ◌+◌, ◌⊎◌, true, false, length, take, drop, slice_index, slice_range};
 ghost use Rattle.niss_text.specs.Signs.{ends_line, HasNoMoves};
-ghost use Rattle.niss_text.specs.Kept.{BeginNoMoves, HasOnlyWords, IsTitleEnd, LosesNone, ArePlain, words_of_head};
+ghost use Rattle.niss_text.specs.Kept.{BeginNoMoves, HasOnlyWords, IsTitleEnd, LosesNone, ArePlain, begins_with_move, words_of_head};
 ghost use Rattle.niss_text.specs.Lines.{IsUnbroken, IsEnd, end_of, end_size};
 
 use crate::body::{has_frame, is_whole_scramble};
@@ -197,6 +197,7 @@ fn line_behind(line: &[u8], head_kind: Head, head: usize) -> Line
     ensures margin { BeginNoMoves (slice_range line.now head result.label_begin) }
     ensures title { IsTitleEnd (slice_range line.now result.label_end result.moves) }
     ensures filled { result.is_blank ≡ false }
+    ensures comment { begins_with_move (drop result.comment line.now) ≡ false }
     ensures alone { result.is_head_alone ≡ true → HasNoMoves (drop head line.now) }
 {
     let parts = parts_of(line, head);
@@ -234,6 +235,7 @@ fn headed_line(line: &[u8], kind: Head, head: usize) -> Line
     ensures margin { BeginNoMoves (slice_range line.now head result.label_begin) }
     ensures title { IsTitleEnd (slice_range line.now result.label_end result.moves) }
     ensures blank { result.is_blank ≡ true → HasNoMoves (drop head line.now) }
+    ensures comment { begins_with_move (drop result.comment line.now) ≡ false }
     ensures alone { result.is_head_alone ≡ true → HasNoMoves (drop head line.now) }
 {
     let rest = from_place(line, head);
@@ -261,6 +263,7 @@ pub fn line_of(line: &[u8], numbers: Numbers) -> Line
     ensures kept { LosesNone line.now 0 result.head result.label_begin result.label_end result.moves }
     ensures blank { result.is_blank ≡ true → HasNoMoves (drop result.head line.now) }
     ensures alone { result.is_head_alone ≡ true → HasNoMoves (drop result.head line.now) }
+    ensures comment { begins_with_move (drop result.comment line.now) ≡ false }
     ensures plain { ArePlain line.now → (result.is_moves ≡ true) × ((result.moves ≡ 0) × (result.comment ≡ result.length)) }
 {
     if is_bare(line) {
@@ -306,6 +309,7 @@ pub fn cut_line(text: &[u8], numbers: Numbers) -> (Line, usize)
     ensures kept { LosesNone (take result.0.length text.now) 0 result.0.head result.0.label_begin result.0.label_end result.0.moves }
     ensures blank { result.0.is_blank ≡ true → HasNoMoves (drop result.0.head (take result.0.length text.now)) }
     ensures alone { result.0.is_head_alone ≡ true → HasNoMoves (drop result.0.head (take result.0.length text.now)) }
+    ensures comment { begins_with_move (drop result.0.comment (take result.0.length text.now)) ≡ false }
     ensures plain { ArePlain (take result.0.length text.now) →
         (result.0.is_moves ≡ true) × ((result.0.moves ≡ 0) × (result.0.comment ≡ result.0.length)) }
 {

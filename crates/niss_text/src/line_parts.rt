@@ -1,6 +1,6 @@
 //! Where the parts of a line are after its head: its label, its moves, and what is said after them.
-ghost use Rattle.std.specs.Prelude.{◌≡◌, ◌≤◌, length, take, slice_range};
-ghost use Rattle.niss_text.specs.Kept.{BeginNoMoves, IsTitleEnd};
+ghost use Rattle.std.specs.Prelude.{◌≡◌, ◌≤◌, false, length, drop, take, slice_range};
+ghost use Rattle.niss_text.specs.Kept.{BeginNoMoves, IsTitleEnd, begins_with_move};
 
 use crate::forms::{blanks, comment_at, label_of, margin};
 use crate::heads::number_length;
@@ -58,8 +58,9 @@ pub fn parts_of(line: &[u8], head: usize) -> Parts
     ensures fits { result.slashes ≤ length line.now }
     ensures margin { BeginNoMoves (slice_range line.now head result.label_begin) }
     ensures title { IsTitleEnd (slice_range line.now result.label_end result.moves) }
+    ensures comment { begins_with_move (drop result.comment line.now) ≡ false }
 {
-    let slashes = head + comment_at(&line[head..]);
+    let slashes = head + comment_at(from_place(line, head));
     let begin = head + numbering(&line[head..slashes]);
     let (words, title) = title_of(&line[begin..slashes]);
     let body = begin + title;

@@ -1,6 +1,9 @@
 //! Where the moves of a line begin and end: after words in front of them that are none, and before those after them.
-ghost use Rattle.std.specs.Prelude.{◌≡◌, ◌≤◌, ◌<◌, length, true};
+ghost use Rattle.std.specs.Prelude.{◌≡◌, ◌≤◌, ◌<◌, ℕ, List, length, drop, true, false};
+ghost use Rattle.niss_text.specs.Kept.{begins_with_move, IsNoMove};
+ghost use Rattle.niss_text.specs.declared.word.Word.TheVariants.{Move};
 
+use crate::sign::from_place;
 use crate::word::{Word, are_plain_moves, first_word};
 
 /// Where the moves of a line begin and end, and where the first name stands that may be moves, such as `LL`: the end if
@@ -41,7 +44,8 @@ struct Frame {
 
 impl Frame {
     fn nothing() -> Frame
-        ensures { (result.lead ≤ 0) × (result.tail ≤ 0) × (result.bracket ≤ 0) × (result.name ≤ 0) }
+        ensures begin { (result.lead ≤ 0) × (result.tail ≤ 0) × (result.bracket ≤ 0) × (result.name ≤ 0) }
+        ensures none { (result.has_tail ≡ false) × (result.is_open ≡ false) }
     {
         Frame {
             lead: 0,
@@ -65,6 +69,8 @@ impl Frame {
         ensures tail { result.tail ≤ self.tail }
         ensures bracket { result.bracket ≤ self.bracket }
         ensures name { result.name ≤ self.name }
+        ensures tail_is { (text : List ℕ) → IsNoMove text self.has_tail self.tail → IsNoMove text result.has_tail result.tail }
+        ensures open_is { (text : List ℕ) → IsNoMove text self.is_open self.bracket → IsNoMove text result.is_open result.bracket }
     {
         let mut frame = self;
         frame.is_lead = false;
@@ -81,6 +87,9 @@ impl Frame {
         ensures tail { self.tail ≤ begin → self.bracket ≤ begin → result.tail ≤ end }
         ensures bracket { result.bracket ≤ self.bracket }
         ensures name { result.name ≤ self.name }
+        ensures tail_is { (text : List ℕ) → IsNoMove text self.has_tail self.tail → IsNoMove text self.is_open self.bracket →
+            IsNoMove text true begin → IsNoMove text result.has_tail result.tail }
+        ensures open_is { (text : List ℕ) → IsNoMove text self.is_open self.bracket → IsNoMove text result.is_open result.bracket }
     {
         let mut frame = self;
         if self.is_lead {
@@ -98,6 +107,8 @@ impl Frame {
         ensures tail { result.tail ≤ self.tail }
         ensures bracket { result.bracket ≤ self.bracket }
         ensures name { self.name ≤ begin → result.name ≤ begin }
+        ensures tail_is { (text : List ℕ) → IsNoMove text self.has_tail self.tail → IsNoMove text result.has_tail result.tail }
+        ensures open_is { (text : List ℕ) → IsNoMove text self.is_open self.bracket → IsNoMove text result.is_open result.bracket }
     {
         let mut frame = self;
         if !self.has_name {
@@ -113,6 +124,9 @@ impl Frame {
         ensures tail { result.tail ≤ self.tail }
         ensures bracket { self.bracket ≤ begin → result.bracket ≤ begin }
         ensures name { result.name ≤ self.name }
+        ensures tail_is { (text : List ℕ) → IsNoMove text self.has_tail self.tail → IsNoMove text result.has_tail result.tail }
+        ensures open_is { (text : List ℕ) → IsNoMove text self.is_open self.bracket → IsNoMove text true begin →
+            IsNoMove text result.is_open result.bracket }
     {
         let mut frame = self;
         if !self.has_tail {
@@ -129,6 +143,8 @@ impl Frame {
         ensures tail { result.tail ≤ self.tail }
         ensures bracket { result.bracket ≤ self.bracket }
         ensures name { result.name ≤ self.name }
+        ensures tail_is { (text : List ℕ) → IsNoMove text self.has_tail self.tail → IsNoMove text result.has_tail result.tail }
+        ensures open_is { (text : List ℕ) → IsNoMove text self.is_open self.bracket → IsNoMove text result.is_open result.bracket }
     {
         let mut frame = self;
         if self.is_lead && self.is_open && self.lead > 0 {
@@ -146,6 +162,10 @@ impl Frame {
         ensures tail { self.tail ≤ begin → self.bracket ≤ begin → result.tail ≤ end }
         ensures bracket { self.bracket ≤ begin → result.bracket ≤ end }
         ensures name { self.name ≤ begin → result.name ≤ end }
+        ensures tail_is { (text : List ℕ) → IsNoMove text self.has_tail self.tail → IsNoMove text self.is_open self.bracket →
+            ((word ≡ Move → ⊥) → IsNoMove text true begin) → IsNoMove text result.has_tail result.tail }
+        ensures open_is { (text : List ℕ) → IsNoMove text self.is_open self.bracket → ((word ≡ Move → ⊥) → IsNoMove text true begin) →
+            IsNoMove text result.is_open result.bracket }
     {
         match word {
             Word::Move | Word::Moves => self.with_moves(),
@@ -168,6 +188,8 @@ impl Frame {
         ensures tail { result.tail ≤ self.tail }
         ensures bracket { result.bracket ≤ self.bracket }
         ensures name { result.name ≤ self.name }
+        ensures tail_is { (text : List ℕ) → IsNoMove text self.has_tail self.tail → IsNoMove text result.has_tail result.tail }
+        ensures open_is { (text : List ℕ) → IsNoMove text self.is_open self.bracket → IsNoMove text result.is_open result.bracket }
     {
         let mut frame = self;
         frame.is_lead = false;
@@ -181,6 +203,8 @@ impl Frame {
         ensures tail { result.tail ≤ self.tail }
         ensures bracket { result.bracket ≤ self.bracket }
         ensures name { result.name ≤ self.name }
+        ensures tail_is { (text : List ℕ) → IsNoMove text self.has_tail self.tail → IsNoMove text result.has_tail result.tail }
+        ensures open_is { (text : List ℕ) → IsNoMove text self.is_open self.bracket → IsNoMove text result.is_open result.bracket }
     {
         let mut frame = self;
         frame.has_words = true;
@@ -197,6 +221,7 @@ impl Frame {
         requires { self.name ≤ length }
         ensures fits { result.end ≤ length }
         ensures name { result.name ≤ length }
+        ensures tail { (text : List ℕ) → IsNoMove text self.has_tail self.tail → result.end < length → begins_with_move (drop result.end text) ≡ false }
     {
         let is_told = self.moves > 1 && !(self.is_open && self.is_of_moves);
         if !is_told {
@@ -225,6 +250,7 @@ impl Frame {
 pub fn span_of(line: &[u8]) -> Span
     ensures fits { result.end ≤ length line.now }
     ensures name { result.name ≤ length line.now }
+    ensures tail { result.end < length line.now → begins_with_move (drop result.end line.now) ≡ false }
 {
     if are_plain_moves(line) {
         return Span {
@@ -240,7 +266,7 @@ pub fn span_of(line: &[u8]) -> Span
         let (word, length) = first_word(rest);
         let begin = line.len() - rest.len();
         frame = frame.after(word, begin, begin + length);
-        rest = &rest[length..];
+        rest = from_place(rest, length);
     }
     frame.span(line.len())
 }

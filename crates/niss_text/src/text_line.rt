@@ -49,7 +49,7 @@ pub struct TextLine {
     pub is_solution: u8,
     /// 1: a head stands before `head_end`. The first one of an attempt is its name.
     pub is_headed: u8,
-    /// 1: its label says that the solution follows.
+    /// 1: its label says, up to a colon if it has one, that the solution follows.
     pub says_solution: u8,
     /// 1: what is said of it has its moves on the inverse, and they have no brackets.
     pub is_inverse: u8,
@@ -62,6 +62,8 @@ pub struct TextLine {
     pub group: usize,
     pub begin: usize,
     pub head_end: usize,
+    /// Its label is all that is said before its moves. No letter stands between the parts, but in a number of moves
+    /// after the label.
     pub label_begin: usize,
     pub label_end: usize,
     pub moves: usize,

@@ -1,6 +1,8 @@
 //! The words of a line: moves that stand alone, moves in one word, and words that are no moves.
-ghost use Rattle.std.specs.Prelude.{◌≡◌, ◌≤◌, ◌<◌, true, false, length, IfSome};
-ghost use Rattle.niss_text.specs.Kept.{ArePlain, follows};
+ghost use Rattle.std.specs.Prelude.{◌≡◌, ◌≤◌, ◌<◌, ◌==◌, ◌||◌, true, false, length, drop, IfSome, IsSome};
+ghost use Rattle.niss_text.specs.Doubts.{is_capital};
+ghost use Rattle.niss_text.specs.Kept.{ArePlain, follows, is_over, begins_with_move};
+ghost use Rattle.niss_text.specs.declared.word.Word.TheVariants.{Move};
 
 use crate::forms::count_length;
 use crate::sign::{Kind, first_kind, first_sign};
@@ -280,37 +282,76 @@ fn has_glued_moves(word: &[u8]) -> bool {
 
 /// Whether a text ends at a place, or has a blank there.
 fn ends_word(text: &[u8], at: usize) -> bool
-    ensures { result ≡ false → at < length text.now }
+    ensures within { result ≡ false → at < length text.now }
+    ensures is { result ≡ is_over (drop at text.now) }
 {
-    at >= text.len() || text[at] == b' '
+    if at >= text.len() {
+        return true;
+    }
+    text[at] == b' '
+}
+
+/// Whether a move may begin with a byte.
+fn begins_move(byte: u8) -> bool
+    ensures { is_capital byte ≡ true → result ≡ true }
+{
+    is_capital_move(byte) || is_small_move(byte)
+}
+
+/// Whether a byte may stand after the letter of a move and end it.
+fn ends_move(byte: u8) -> bool
+    ensures { result ≡ ((byte == 50) || (byte == 39)) }
+{
+    byte == b'2' || byte == b'\''
+}
+
+/// How many bytes a move has in front of a text that is a word by itself, a letter or one with one sign after it; else 0.
+fn move_length(text: &[u8]) -> usize
+    requires { 0 < length text.now }
+    ensures fits { result ≤ length text.now }
+    ensures some { begins_with_move text.now ≡ true → 0 < result }
+{
+    if !begins_move(text[0]) {
+        return 0;
+    }
+    if ends_word(text, 1) {
+        return 1;
+    }
+    if ends_move(text[1]) && ends_word(text, 2) {
+        2
+    } else {
+        0
+    }
 }
 
 /// A word in front of a text that is one letter or digit, or a move with one sign after it, and how many bytes it has:
 /// most words are.
 fn short_word(text: &[u8]) -> Option<(Word, usize)>
     requires { 0 < length text.now }
-    ensures { IfSome result (λ word. (0 < word.1) × (word.1 ≤ length text.now)) }
+    ensures fits { IfSome result (λ word. (0 < word.1) × (word.1 ≤ length text.now)) }
+    ensures some { begins_with_move text.now ≡ true → IsSome result }
+    ensures single { IfSome result (λ word. begins_with_move text.now ≡ true → word.0 ≡ Move) }
 {
-    let is_move = is_capital_move(text[0]) || is_small_move(text[0]);
-    if ends_word(text, 1) {
-        return match text[0] {
-            _ if is_move => Some((Word::Move, 1)),
-            b'A'..=b'Z' | b'a'..=b'z' => Some((Word::Other, 1)),
-            b'2' | b'3' => Some((Word::Number, 1)),
-            b'0'..=b'9' => Some((Word::Total, 1)),
-            _ => None,
-        };
+    let length = move_length(text);
+    if length > 0 {
+        return Some((Word::Move, length));
     }
-    if is_move && matches!(text[1], b'2' | b'\'') && ends_word(text, 2) {
-        return Some((Word::Move, 2));
+    if !ends_word(text, 1) {
+        return None;
     }
-    None
+    match text[0] {
+        b'A'..=b'Z' | b'a'..=b'z' => Some((Word::Other, 1)),
+        b'2' | b'3' => Some((Word::Number, 1)),
+        b'0'..=b'9' => Some((Word::Total, 1)),
+        _ => None,
+    }
 }
 
 /// The first word of a text, and how many bytes it has.
 pub fn first_word(text: &[u8]) -> (Word, usize)
     requires { 0 < length text.now }
-    ensures { (0 < result.1) × (result.1 ≤ length text.now) }
+    ensures fits { (0 < result.1) × (result.1 ≤ length text.now) }
+    ensures single { begins_with_move text.now ≡ true → result.0 ≡ Move }
 {
     if let Some(word) = short_word(text) {
         return word;

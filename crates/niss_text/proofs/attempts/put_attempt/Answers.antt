@@ -38,7 +38,7 @@ loop-at-preserved c =
       end = c.judged-told.ensures.ends ∙ shown.ends;
     } in
     let is_seen : IsSeen (take size (drop now text)) seen =
-    subst (λ (r : List ℕ). IsSeen (take size r) seen) rest (record { kept = cut.kept; blank = cut.blank; alone = cut.alone; plain = cut.plain }) in
+    subst (λ (r : List ℕ). IsSeen (take size r) seen) rest (record { kept = cut.kept; blank = cut.blank; alone = cut.alone; comment = cut.comment; plain = cut.plain }) in
     let has : HasKind seen told.kind = record {
       blank = λ is. c.kind_at.ensures.blank (sym kind ∙ is);
       before = λ is. c.kind_at.ensures.before (sym kind ∙ is);

@@ -1,3 +1,5 @@
+use Rattle.std.proofs.Common.{arith}
+use Rattle.niss_text.proofs.WordLemmas.{none_at_end}
 use Rattle.niss_text.proofs.KeptLemmas.{kept_blank, kept_headed}
 use Rattle.niss_text.proofs.line.line_of.Goals as goal
 
@@ -13,3 +15,11 @@ returns-then-seen-clause-kept c =
     kept_headed c.args.line.now c.from_place.result.now c.margin-begin.result c.head_of-kind.result.1 seen.result.head seen.result.label_begin
     seen.result.label_end seen.result.moves seen.ensures.head c.margin-begin.ensures.empty c.from_place.ensures c.head_of-kind.ensures.words
     seen.ensures.margin seen.ensures.title
+
+pub returns-then-is_bare-clause-comment : goal.returns-then-is_bare-clause-comment
+returns-then-is_bare-clause-comment c = none_at_end c.args.line.now c.bare.result.comment (omega (arith, c.bare.ensures.comment))
+
+pub returns-then-begin-line-clause-comment : goal.returns-then-begin-line-clause-comment
+returns-then-begin-line-clause-comment c =
+    let bare = c.bare-then-begin-line in
+    none_at_end c.args.line.now bare.result.comment (omega (arith, bare.ensures.comment, c.if-begin-line.true))

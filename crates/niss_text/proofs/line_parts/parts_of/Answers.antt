@@ -1,7 +1,9 @@
-use Rattle.std.proofs.Common.{ℕ, List, ◌≡◌, ◌+◌, ◌-◌, ◌≤◌, take, slice_range, sym, ◌∙◌, subst, arith}
+use Rattle.std.proofs.Common.{ℕ, List, ◌≡◌, ◌+◌, ◌-◌, ◌≤◌, length, drop, get_or, length-drop, ap, take, slice_range, sym, ◌∙◌, subst, arith}
 use Rattle.niss_text.specs.Signs.{HasNoMoves}
 use Rattle.niss_text.specs.Kept.{IsTitleEnd}
 use Rattle.niss_text.proofs.KeptLemmas.{blank_title, whole_title, part_long}
+use Rattle.niss_text.proofs.WordLemmas.{comment_begins}
+use Rattle.std.proofs.lemmas.List.{get_or-drop}
 use Rattle.niss_text.proofs.line_parts.parts_of.Goals.{then-words-eq0, else-words-eq0, then-span-eq0, else-span-eq0}
 use Rattle.niss_text.proofs.line_parts.parts_of.Goals as goal
 
@@ -34,3 +36,20 @@ returns-clause-title c =
       | else-span-eq0 w ↦
           subst (λ n. IsTitleEnd (slice_range line n (lead + blanks))) (sym w.result-is) (blank_title line lead comment blanks fits c.blanks.ensures.empty)
     ]
+
+pub returns-clause-comment : goal.returns-clause-comment
+returns-clause-comment c =
+    let line : List ℕ = c.args.line.now in
+    let head : ℕ = c.args.head in
+    let begin : ℕ = head + c.numbering.result in
+    let body : ℕ = begin + c.title_of-words.result.1 in
+    let slashes : ℕ = head + c.comment_at.result in
+    let rest : List ℕ = c.from_place.result.now in
+    let is : rest ≡ drop head line = c.from_place.ensures in
+    let within : slashes ≤ length line = omega (arith, c.comment_at.ensures.fits, ap length is, length-drop head line, c.requires) in
+    let first : c.numbering.result ≤ slashes - head = omega (arith, c.numbering.ensures.fits, part_long line head slashes) in
+    let second : c.title_of-words.result.1 ≤ slashes - begin = omega (arith, c.title_of-words.ensures.fits, part_long line begin slashes) in
+    comment_begins line slashes body c.span_of-span.result.end (omega (arith, first, second)) within
+    (omega (arith, c.span_of-span.ensures.fits, part_long line body slashes))
+    (λ lt. sym (get_or-drop head line c.comment_at.result 0) ∙ ap (λ v. get_or v c.comment_at.result 0) (sym is)
+    ∙ c.comment_at.ensures.slash (omega (arith, lt, ap length is, length-drop head line))) c.span_of-span.ensures.tail

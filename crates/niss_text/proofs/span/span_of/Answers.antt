@@ -1,0 +1,30 @@
+use Rattle.std.proofs.Common.{◌≡◌, ℕ, List, ◌+◌, ◌-◌, ◌≤◌, length, true, false, subst, arith}
+use Rattle.std.proofs.lemmas.Bool.{false_from_ne_true}
+use Rattle.niss_text.specs.Kept.{begins_with_move, IsNoMove}
+use Rattle.niss_text.specs.declared.word.Word.TheVariants.{Move}
+use Rattle.niss_text.proofs.KeptLemmas.{passed_so_far}
+use Rattle.niss_text.proofs.span.span_of.Goals as goal
+
+pub loop-rest-preserved : goal.loop-rest-preserved
+loop-rest-preserved c =
+    let line : List ℕ = c.args.line.now in
+    let rest : List ℕ = c.loop-rest.rest.now in
+    let next : List ℕ = c.from_place-rest.result.now in
+    let inv = c.loop-rest.invariant in
+    let word = c.first_word-word in
+    let after = c.after-frame.ensures in
+    let begin : ℕ = length line - length rest in
+    let far = passed_so_far line rest next word.result.1 inv.left inv.rest word.ensures.fits.1 c.from_place-rest.ensures in
+    let there : begin + word.result.1 ≡ length line - length next = omega (arith, far.0, inv.left) in
+    let none : (word.result.0 ≡ Move → ⊥) → IsNoMove line true begin =
+    λ not t. subst (λ v. begins_with_move v ≡ false) inv.rest (false_from_ne_true (begins_with_move rest) (λ is. not (word.ensures.single is))) in
+    record {
+      left = omega (arith, far.0, inv.left);
+      rest = far.1;
+      lead = subst (λ n. c.after-frame.result.lead ≤ n) there (after.lead inv.lead);
+      tail = subst (λ n. c.after-frame.result.tail ≤ n) there (after.tail inv.tail inv.opened);
+      opened = subst (λ n. c.after-frame.result.bracket ≤ n) there (after.bracket inv.opened);
+      name = subst (λ n. c.after-frame.result.name ≤ n) there (after.name inv.name);
+      tail_is = after.tail_is line inv.tail_is inv.open_is none;
+      open_is = after.open_is line inv.open_is none;
+    }
