@@ -125,7 +125,7 @@ def slips(tally: Tally) -> None:
             doubts += any(it.doubt for it in told)
             count += 1
             tally.holds(f"a slip in {kind.name} is seen", not any(it.check and it.check.solved for it in told))
-    tally.holds(f"at most an eighth of {count} are in doubt: {doubts}", count > 200 and doubts * 8 <= count)
+    tally.holds(f"at most a seventh of {count} are in doubt: {doubts}", count > 200 and doubts * 7 <= count)
 
 
 def doubts(tally: Tally) -> None:

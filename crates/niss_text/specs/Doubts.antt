@@ -75,10 +75,20 @@ is_marked text k = (slice_index text k == 91) && (is_digit (slice_index text (k 
 abbrev pub is_comma : ℕ → Bool
 is_comma b = (b == 44) || (b == 59)
 
--- a comma at a place, after which a letter stands, or a blank and a letter
+-- what ends a move of a capital letter, or moves in brackets
+abbrev pub ends_capital : ℕ → Bool
+ends_capital b = is_capital b || (is_digit b || (is_prime b || closes b))
+
+-- a move ends before a place, or a letter stands after it; there may be one blank between
+unfoldable pub is_after_move : List ℕ → ℕ → Bool
+is_after_move text k = ends_capital (slice_index text (k - 1)) || ((slice_index text (k - 1) == 32) && ends_capital (slice_index text (k - 2)))
+
 unfoldable pub is_before_letter : List ℕ → ℕ → Bool
-is_before_letter text k = is_comma (slice_index text k)
-    && (is_letter (slice_index text (k + 1)) || ((slice_index text (k + 1) == 32) && is_letter (slice_index text (k + 2))))
+is_before_letter text k = is_letter (slice_index text (k + 1)) || ((slice_index text (k + 1) == 32) && is_letter (slice_index text (k + 2)))
+
+-- a comma between a move and a letter
+unfoldable pub is_between : List ℕ → ℕ → Bool
+is_between text k = is_comma (slice_index text k) && (is_after_move text k && is_before_letter text k)
 
 -- a blank at a place, and no comma beside it
 unfoldable pub is_gap : List ℕ → ℕ → Bool
@@ -86,7 +96,7 @@ is_gap text k = (slice_index text k == 32) && not (is_comma (slice_index text (k
 
 -- What is seen at a place of a text, after the first one of a part of it: a small letter of an outer turn, a capital
 -- one, a letter right after the sign of a move (but the w of a wide turn), a letter after something else, an
--- apostrophe, a number of times after brackets, a digit in square brackets before moves, a comma before a letter, or a blank
+-- apostrophe, a number of times after brackets, a digit in square brackets before moves, a comma between a move and a letter, or a blank
 -- without a comma beside it.
 unfoldable pub sees : List ℕ → Sight → ℕ → Bool
 sees text Small k = is_small (slice_index text k)
@@ -96,7 +106,7 @@ sees text Parted k = not (ends_move (slice_index text (k - 1))) && is_letter (sl
 sees text Prime k = is_prime (slice_index text k)
 sees text Repeated k = is_repeated text k
 sees text Marked k = is_marked text k
-sees text Comma k = is_before_letter text k
+sees text Comma k = is_between text k
 sees text Gap k = is_gap text k
 
 -- such a thing is seen nowhere in a part of a text

@@ -3,8 +3,8 @@
 ghost use Rattle.std.specs.Prelude.{◌≤◌, ◌<◌, length, IfSome};
 
 use crate::sights::is_letter;
-use crate::sign::{Class, first_sign, is_digit_byte, is_skipped, length_of, trimmed};
-use crate::words::{is_step_name, names_place};
+use crate::sign::{Class, is_digit_byte, length_of, trimmed};
+use crate::words::{is_end_name, is_step_name, names_place};
 
 /// Whether a text begins with a number of times, such as `x2` or `2x`.
 fn begins_times(text: &[u8]) -> bool {
@@ -48,10 +48,27 @@ fn last_word(moves: &[u8]) -> usize
     begin
 }
 
-/// Whether a text begins with a word that may go on what stands before it, as `layer` does, or `in`: not the name of a step.
+/// How many letters of ASCII a text begins with.
+fn letters_length(text: &[u8]) -> usize
+    ensures { result ≤ length text.now }
+{
+    for (at, byte) in text.iter().enumerate() {
+        if !is_letter(*byte) {
+            return at;
+        }
+    }
+    text.len()
+}
+
+/// Whether a word may have a letter beside it that is of what it says: two letters at least, and no name by which solvers
+/// say which step moves are.
+fn may_have_letter(word: &[u8]) -> bool {
+    word.len() > 1 && !(is_step_name(word) || is_end_name(word))
+}
+
+/// Whether a text begins with a word that may go on what stands before it, as `layer` does, or `in`.
 fn begins_words(text: &[u8]) -> bool {
-    let word = &text[..length_of(text, Class::Letters)];
-    names_place(text) || (word.len() > 1 && !is_step_name(word))
+    names_place(text) || may_have_letter(&text[..letters_length(text)])
 }
 
 /// Whether a word is a letter by itself.
@@ -74,24 +91,10 @@ pub fn letter_of_words(moves: &[u8], words: &[u8]) -> Option<usize>
     None
 }
 
-/// The last word of a text, if only blanks stand after it.
+/// The last word of a text, as blanks part them, without those after it.
 fn word_at_end(text: &[u8]) -> &[u8] {
-    let mut word: &[u8] = &[];
-    let mut rest = text;
-    while !rest.is_empty() {
-        let letters = length_of(rest, Class::Letters);
-        if letters > 0 {
-            word = &rest[..letters];
-            rest = &rest[letters..];
-        } else {
-            let sign = first_sign(rest);
-            if !is_skipped(sign.kind) {
-                word = &[];
-            }
-            rest = &rest[sign.length..];
-        }
-    }
-    word
+    let word = &text[last_word(text)..];
+    &word[..length_of(word, Class::NoBlanks)]
 }
 
 /// Whether moves begin with a letter by itself that may be of the words before them, such as `square F`.
@@ -100,7 +103,9 @@ pub fn begin_with_letter_of_words(moves: &[u8], words: &[u8]) -> bool {
     if !is_letter_alone(&moves[..first]) {
         return false;
     }
-    word_at_end(words).len() > 1
+    let word = word_at_end(words);
+    // axes have two letters
+    word.len() > 2 && (letters_length(word) == word.len() && may_have_letter(word))
 }
 
 /// Where moves end with a turn of the cube that may say how many times they are made, such as `x2`.

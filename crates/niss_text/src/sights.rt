@@ -1,7 +1,7 @@
 //! What is looked for at each place of a line, and where it is seen first.
 ghost use Rattle.std.specs.Prelude.{◌≡◌, ◌≤◌, ◌<◌, ℕ, true, false, length, slice_index};
 ghost use Rattle.niss_text.specs.Doubts.{is_small, is_capital, is_prime, is_letter, ends_move, closes, is_times, is_cross, last_of_times};
-ghost use Rattle.niss_text.specs.Doubts.{is_after_bracket, is_before_digit, is_repeated, is_marked, is_comma, is_before_letter, is_gap, sees, HasNone};
+ghost use Rattle.niss_text.specs.Doubts.{is_after_bracket, is_before_digit, is_repeated, is_marked, is_comma, ends_capital, is_after_move, is_before_letter, is_between, is_gap, sees, HasNone};
 
 use crate::sign::is_digit_byte;
 
@@ -22,7 +22,7 @@ pub enum Sight {
     Repeated,
     /// A digit in square brackets before moves, such as `[1] R`.
     Marked,
-    /// A comma before a letter.
+    /// A comma between a move and a letter.
     Comma,
     /// A blank beside which no comma stands.
     Gap,
@@ -145,17 +145,39 @@ fn is_comma(byte: u8) -> bool
     byte == b',' || byte == b';'
 }
 
-/// Whether a comma stands at a place of a text, and after it a letter.
+/// Whether a byte ends a move of a capital letter, or moves in brackets.
+fn ends_capital(byte: u8) -> bool
+    ensures { result ≡ ends_capital byte }
+{
+    is_capital(byte) || (is_digit_byte(byte) || (is_prime(byte) || closes(byte)))
+}
+
+/// Whether a move ends before a place, or before a blank there.
+#[tactic(auto, unfolding(crate::specs::Doubts::is_after_move))]
+fn is_after_move(text: &[u8], at: usize) -> bool
+    ensures { result ≡ is_after_move text.now at }
+{
+    let before = byte_at(text, at.saturating_sub(1));
+    ends_capital(before) || (before == b' ' && ends_capital(byte_at(text, at.saturating_sub(2))))
+}
+
+/// Whether a letter stands after a place, or after a blank there.
 #[tactic(auto, unfolding(crate::specs::Doubts::is_before_letter))]
 fn is_before_letter(text: &[u8], at: usize) -> bool
-    requires { at < length text.now }
+    requires { at ≤ length text.now }
     ensures { result ≡ is_before_letter text.now at }
 {
-    if !is_comma(text[at]) {
-        return false;
-    }
     let after = byte_at(text, at + 1);
     is_letter(after) || (after == b' ' && is_letter(byte_at(text, at + 2)))
+}
+
+/// Whether a comma stands at a place of a text, between a move and a letter.
+#[tactic(auto, unfolding(crate::specs::Doubts::is_between))]
+fn is_between(text: &[u8], at: usize) -> bool
+    requires { at < length text.now }
+    ensures { result ≡ is_between text.now at }
+{
+    is_comma(text[at]) && (is_after_move(text, at) && is_before_letter(text, at))
 }
 
 /// Whether a blank stands at a place of a text, and no comma beside it.
@@ -183,7 +205,7 @@ fn sees(text: &[u8], sight: Sight, at: usize) -> bool
         Sight::Prime => is_prime(byte),
         Sight::Repeated => is_repeated(text, at),
         Sight::Marked => is_marked(text, at),
-        Sight::Comma => is_before_letter(text, at),
+        Sight::Comma => is_between(text, at),
         Sight::Gap => is_gap(text, at),
     }
 }

@@ -110,6 +110,11 @@ pub fn is_step_name(word: &[u8]) -> bool {
     fits_one_of(word, b"eo,dr,htr,fr,finish,skeleton,slice", true)
 }
 
+/// Whether solvers call the last step so, or its end.
+pub fn is_end_name(word: &[u8]) -> bool {
+    fits_one_of(word, b"fin,end,done,rest,solved", true)
+}
+
 /// Whether a text begins with a word before which solvers name a place of the cube, or a case, by a letter.
 pub fn names_place(text: &[u8]) -> bool {
     fits_one_of(
