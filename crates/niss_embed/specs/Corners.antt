@@ -1,5 +1,5 @@
 -- Where moves bring the corners of the cube, by numbers of their places; and what parts of a line do to the corners.
-use Rattle.std.specs.Prelude.{◌≡◌, ℕ, ◌+◌, ◌-◌, ◌*◌, ◌<◌, ◌≤◌, ◌⊎◌, ◌==◌, Bool, true, not, List, [], ◌∷◌, ◌++◌, length, map, flat_map, IfSome, get_or, slice_index, slice_range}
+use Rattle.std.specs.Prelude.{◌≡◌, ℕ, ◌+◌, ◌-◌, ◌*◌, ◌<◌, ◌≤◌, ◌⊎◌, ◌==◌, Bool, true, not, ◌||◌, List, [], ◌∷◌, ◌++◌, length, map, flat_map, IfSome, get_or, slice_index, slice_range}
 use Rattle.std.specs.List.{list_any, range_with_len}
 use Rattle.niss_moves.specs.Effects.{effect, inverse}
 use Rattle.niss_moves.specs.Line.{Spells, Moves, joined_moves}
@@ -29,6 +29,10 @@ corner_of q = side q.cell.x + 2 * side q.cell.y + 4 * side q.cell.z
 pub record Brings (to : List ℕ) (s : List Token) : Type 0 where
   pub stays : (q : Place) → is_corner q ≡ true → is_corner (effect s q) ≡ true
   pub there : (q : Place) → is_corner q ≡ true → corner_of (effect s q) ≡ slice_index to (corner_of q)
+
+-- Places whose numbers differ so lie side by side on an edge.
+abbrev pub is_one_bit : ℕ → Bool
+is_one_bit bits = (bits == 1) || ((bits == 2) || (bits == 4))
 
 abbrev pub home : List ℕ
 home = 0 ∷ 1 ∷ 2 ∷ 3 ∷ 4 ∷ 5 ∷ 6 ∷ 7 ∷ []

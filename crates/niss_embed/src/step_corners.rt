@@ -138,7 +138,7 @@ pub fn renew(steps: &[StepCorners], tails: &mut [Corners; MOST_BOUNDS], set: Ste
     }
 }
 
-/// Whether a line whose moves bring corners so may solve a scramble: whether opposite corners come to opposite places.
+/// Whether a line whose moves bring corners so may solve a scramble: whether all together only turn the whole cube.
 #[inline(never)]
 fn may_solve(scramble: &Corners, line: &Corners) -> bool
     ensures { (moves : Moves) (bytes : List ℕ) → Brings scramble.now.to (joined_moves moves) → IsTail bytes line.now.to →
@@ -147,7 +147,7 @@ fn may_solve(scramble: &Corners, line: &Corners) -> bool
     line_is_read();
     one_reading();
     rotated_is_tested();
-    scramble.then(line).opposites_stay()
+    scramble.then(line).may_be_rotated()
 }
 
 /// What a scramble and the steps of an attempt do to the corners.
