@@ -16,7 +16,7 @@ use Rattle.niss_moves.specs.declared.turn.Power.TheVariants.{Quarter, Half, Coun
 use Rattle.niss_moves.proofs.CallerLemmas.{Fact, Yes, Equal, Both, When, Numbers, Places, Faces, Tokens, Holds, holds, and_left, effect-append, inverse-append}
 unfoldable use Rattle.niss_moves.proofs.CallerLemmas.{every_face, every_power, every_axis, every_slice, every_token}
 use Rattle.niss_embed.specs.declared.corners.Corners.{Corners}
-use Rattle.niss_embed.specs.Corners.{Brings, side, home, corners_after}
+use Rattle.niss_embed.specs.Corners.{Brings, side, home, corners_after, is_one_bit}
 unfoldable use Rattle.niss_embed.specs.Corners.{corner_of}
 
 corner_is_place : (q : Place) → is_corner q ≡ true → is_place q ≡ true
@@ -106,6 +106,19 @@ opposites f (Some Quarter) = holds (Faces λ f. opposites_fact (rotated f (Some 
 opposites f (Some Half) = holds (Faces λ f. opposites_fact (rotated f (Some Half))) refl f
 opposites f (Some Counter) = holds (Faces λ f. opposites_fact (rotated f (Some Counter))) refl f
 
+-- It brings the neighbours of one beside it.
+abbrev neighbours_fact : List Token → Fact
+neighbours_fact s =
+    Both (Yes (is_one_bit (apart s (facelet D 7) (facelet D 9)))) (Both (Yes (is_one_bit (apart s (facelet D 7) (facelet U 1))))
+    (Yes (is_one_bit (apart s (facelet D 7) (facelet D 1)))))
+
+neighbours : (f : Face) (o : Option Power) → Holds (neighbours_fact (rotated f o))
+unfolding every_face corner_of
+neighbours f None = holds (Faces λ f. neighbours_fact (rotated f None)) refl f
+neighbours f (Some Quarter) = holds (Faces λ f. neighbours_fact (rotated f (Some Quarter))) refl f
+neighbours f (Some Half) = holds (Faces λ f. neighbours_fact (rotated f (Some Half))) refl f
+neighbours f (Some Counter) = holds (Faces λ f. neighbours_fact (rotated f (Some Counter))) refl f
+
 -- So do moves that have the effect of one.
 pair_apart : (to : List ℕ) (s : List Token) (r : Rotation) (p q : Place) → Brings to s → SameMap (effect s) (effect (spelling r)) → is_corner p ≡ true →
     is_corner q ≡ true → bit_xor (slice_index to (corner_of p)) (slice_index to (corner_of q)) ≡ apart (spelling r) p q
@@ -126,6 +139,19 @@ opposites_stay to s b w =
       pair_apart to s r (facelet D 9) (facelet U 7) b w.1 refl refl ∙ h.1.0,
       pair_apart to s r (facelet U 1) (facelet D 3) b w.1 refl refl ∙ h.1.1.0,
       pair_apart to s r (facelet U 3) (facelet D 1) b w.1 refl refl ∙ h.1.1.1,
+    )
+
+abbrev pub AreBeside : List ℕ → ℕ → ℕ → Type 0
+AreBeside to j k = is_one_bit (bit_xor (slice_index to j) (slice_index to k)) ≡ true
+
+pub neighbours_stay : (to : List ℕ) (s : List Token) → Brings to s → IsRotated s → AreBeside to 0 1 × AreBeside to 0 2 × AreBeside to 0 4
+unfolding corner_of
+neighbours_stay to s b w =
+    let r : Rotation = w.0 in
+    let h = neighbours r.top r.vertical in (
+      ap is_one_bit (pair_apart to s r (facelet D 7) (facelet D 9) b w.1 refl refl) ∙ h.0,
+      ap is_one_bit (pair_apart to s r (facelet D 7) (facelet U 1) b w.1 refl refl) ∙ h.1.0,
+      ap is_one_bit (pair_apart to s r (facelet D 7) (facelet D 1) b w.1 refl refl) ∙ h.1.1,
     )
 
 pub is_seven : (n : ℕ) → n ≡ 7 → (n == 7) ≡ true

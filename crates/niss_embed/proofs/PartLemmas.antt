@@ -8,10 +8,8 @@ use Rattle.niss_search.proofs.CallerLemmas.{range_push}
 use Rattle.niss_embed.specs.declared.parts.How.{How}
 use Rattle.niss_embed.specs.declared.parts.How.TheVariants.{Alone, LeftOut, InBrackets}
 use Rattle.niss_embed.specs.declared.parts.Part.{Part}
-use Rattle.niss_embed.specs.declared.parts.Found.TheVariants as found
-use Rattle.niss_embed.specs.declared.step_sets.StepSet.{StepSet}
 use Rattle.niss_embed.specs.Corners.{Ascends, AreBounds}
-use Rattle.niss_embed.specs.Parts.{is_end, how_number, part, IsHow, IsPart, IsBefore, IsFirstFrom, IsFound}
+use Rattle.niss_embed.specs.Parts.{most_steps, is_end, how_number, part, IsHow, IsPart, IsBefore, IsFirst, IsFirstFrom}
 unfoldable use Rattle.niss_embed.specs.Parts.{bounds_of}
 
 range_one : (n : ℕ) → range_with_len 1 (n + 1) ≡ range_with_len 1 n ++ (n + 1) ∷ []
@@ -21,7 +19,7 @@ range_one n =
 
 -- the places so far
 abbrev pub bounds_to : List ℕ → ℕ → List ℕ
-bounds_to text n = 0 ∷ take 8 (filter (is_end text) (range_with_len 1 n))
+bounds_to text n = 0 ∷ take most_steps (filter (is_end text) (range_with_len 1 n))
 
 pub bounds_begin : (text : List ℕ) → 0 ∷ [] ≡ bounds_to text 0
 bounds_begin text = refl
@@ -40,32 +38,32 @@ ends_more text n b is =
     ∙ ap (λ v. ends_to text n ++ cond v ((n + 1) ∷ []) []) is
 
 pub bounds_passed : (text items : List ℕ) (n : ℕ) → is_end text (n + 1) ≡ false → items ≡ bounds_to text n → items ≡ bounds_to text (n + 1)
-bounds_passed text items n not is = is ∙ ap (λ v. 0 ∷ take 8 v) (sym (ends_more text n false not ∙ append-nil (ends_to text n)))
+bounds_passed text items n not is = is ∙ ap (λ v. 0 ∷ take most_steps v) (sym (ends_more text n false not ∙ append-nil (ends_to text n)))
 
-added : (xs items more : List ℕ) (x : ℕ) → (length items < 9 → more ≡ items ++ x ∷ []) → (9 ≤ length items → more ≡ items) → items ≡ 0 ∷ take 8 xs →
-    (length xs < 8) ⊎ (8 ≤ length xs) → more ≡ 0 ∷ take 8 (xs ++ x ∷ [])
+added : (xs items more : List ℕ) (x : ℕ) → (length items < most_steps + 1 → more ≡ items ++ x ∷ []) → (most_steps + 1 ≤ length items → more ≡ items) → items ≡ 0 ∷ take most_steps xs →
+    (length xs < most_steps) ⊎ (most_steps ≤ length xs) → more ≡ 0 ∷ take most_steps (xs ++ x ∷ [])
 added xs items more x room full is (inl few) =
-    let all : take 8 xs ≡ xs = take_all 8 xs (omega arith) in
+    let all : take most_steps xs ≡ xs = take_all most_steps xs (omega arith) in
     let long : length items ≡ suc (length xs) = ap length is ∙ ap (λ v. suc (length v)) all in
     let one : length (xs ++ x ∷ []) ≡ length xs + 1 = length-append xs (x ∷ []) in
-    room (omega (arith, long)) ∙ ap (λ v. v ++ x ∷ []) (is ∙ ap (λ v. 0 ∷ v) all) ∙ ap (λ v. 0 ∷ v) (sym (take_all 8 (xs ++ x ∷ []) (omega (arith, one))))
+    room (omega (arith, long)) ∙ ap (λ v. v ++ x ∷ []) (is ∙ ap (λ v. 0 ∷ v) all) ∙ ap (λ v. 0 ∷ v) (sym (take_all most_steps (xs ++ x ∷ []) (omega (arith, one))))
 added xs items more x room full is (inr many) =
-    let long : length items ≡ suc 8 = ap length is ∙ ap (λ k. suc k) (length-take-le 8 xs many) in
-    full (omega (arith, long)) ∙ is ∙ ap (λ v. 0 ∷ v) (sym (take-append-le 8 xs (x ∷ []) many))
+    let long : length items ≡ suc most_steps = ap length is ∙ ap (λ k. suc k) (length-take-le most_steps xs many) in
+    full (omega (arith, long)) ∙ is ∙ ap (λ v. 0 ∷ v) (sym (take-append-le most_steps xs (x ∷ []) many))
 
-pub bounds_added : (text items more : List ℕ) (n : ℕ) → is_end text (n + 1) ≡ true → (length items < 9 → more ≡ items ++ (n + 1) ∷ []) →
-    (9 ≤ length items → more ≡ items) → items ≡ bounds_to text n → more ≡ bounds_to text (n + 1)
+pub bounds_added : (text items more : List ℕ) (n : ℕ) → is_end text (n + 1) ≡ true → (length items < most_steps + 1 → more ≡ items ++ (n + 1) ∷ []) →
+    (most_steps + 1 ≤ length items → more ≡ items) → items ≡ bounds_to text n → more ≡ bounds_to text (n + 1)
 bounds_added text items more n ends room full is =
-    added (ends_to text n) items more (n + 1) room full is (cases_lt (length (ends_to text n)) 8) ∙ ap (λ v. 0 ∷ take 8 v) (sym (ends_more text n true ends))
+    added (ends_to text n) items more (n + 1) room full is (cases_lt (length (ends_to text n)) most_steps) ∙ ap (λ v. 0 ∷ take most_steps v) (sym (ends_more text n true ends))
 
-few_taken : (xs : List ℕ) → (length xs < 8) ⊎ (8 ≤ length xs) → length (take 8 xs) ≤ 8
-few_taken xs (inl few) = omega (arith, ap length (take_all 8 xs (omega arith)))
-few_taken xs (inr many) = omega (arith, length-take-le 8 xs many)
+few_taken : (xs : List ℕ) → (length xs < most_steps) ⊎ (most_steps ≤ length xs) → length (take most_steps xs) ≤ most_steps
+few_taken xs (inl few) = omega (arith, ap length (take_all most_steps xs (omega arith)))
+few_taken xs (inr many) = omega (arith, length-take-le most_steps xs many)
 
-pub bounds_few : (text : List ℕ) → (0 < length (bounds_of text)) × (length (bounds_of text) ≤ 9)
+pub bounds_few : (text : List ℕ) → (0 < length (bounds_of text)) × (length (bounds_of text) ≤ most_steps + 1)
 unfolding bounds_of
 bounds_few text =
-    let few : length (take 8 (ends_to text (length text))) ≤ 8 = few_taken (ends_to text (length text)) (cases_lt (length (ends_to text (length text))) 8) in
+    let few : length (take most_steps (ends_to text (length text))) ≤ most_steps = few_taken (ends_to text (length text)) (cases_lt (length (ends_to text (length text))) most_steps) in
     (omega arith, omega (arith, few))
 
 -- Places ascend from one on.
@@ -103,7 +101,7 @@ are_bounds text =
     let ends : List ℕ = filter (is_end text) (range_with_len 1 (length text)) in
     record {
       begins = refl;
-      ascend = ascend_from 0 (take 8 ends) (taken_ascend 8 0 ends (filtered_ascend (is_end text) 0 1 (length text) (omega arith)));
+      ascend = ascend_from 0 (take most_steps ends) (taken_ascend most_steps 0 ends (filtered_ascend (is_end text) 0 1 (length text) (omega arith)));
     }
 
 pub first_how : (solving : How → Bool) → solving Alone ≡ true → IsHow solving (Some Alone)
@@ -175,13 +173,13 @@ none_more solving steps first none from q among near = last (cases_lt q.first fi
     last (inl less) = none q among less
     last (inr not) = from q among (omega arith)
 
-pub part_found : (solving : Part → Bool) (whole : Bool) (with_set : StepSet → Bool) (steps first : ℕ) (p : Part) → NoneBefore steps solving first →
-    IsFirstFrom steps solving first (Some p) → IsFound steps solving whole with_set (found.Part p)
-part_found solving whole with_set steps first p none is = (is.1, is.2, λ q among before. earlier q among before)
+pub part_found : (solving : Part → Bool) (steps first : ℕ) (p : Part) → NoneBefore steps solving first → IsFirstFrom steps solving first (Some p) →
+    IsFirst steps solving (Some p)
+part_found solving steps first p none is = (is.1, is.2, λ q among before. earlier q among before)
   where
     earlier : (q : Part) → IsPart steps q → IsBefore q p → solving q ≡ false
     earlier q among (inl less) = none q among (omega (arith, is.0))
     earlier q among (inr (e, later)) = is.3 q among (e ∙ is.0) (inr (e, later))
 
-pub none_at_all : (solving : Part → Bool) (steps first : ℕ) → steps < first → NoneBefore steps solving first → (q : Part) → IsPart steps q → solving q ≡ false
-none_at_all solving steps first all none q among = none q among (omega (arith, among.0, among.1))
+pub none_at_all : (solving : Part → Bool) (steps first : ℕ) → steps ≤ first → NoneBefore steps solving first → IsFirst steps solving None
+none_at_all solving steps first all none q among = none q among (omega (arith, among.0, among.1, all))

@@ -1,6 +1,6 @@
 -- Sets of steps by their numbers, the lines in which they stand in brackets, and the first set that solves.
-use Rattle.std.proofs.Common.{◌≡◌, ◌∙◌, ℕ, zero, suc, ◌+◌, ◌-◌, ◌*◌, ◌^◌, ◌<◌, ◌≤◌, ◌⊎◌, ◌==◌, Bool, true, false, Some, None, Option, List, [], ◌∷◌, ◌++◌, length, get_or, refl, sym, ap, subst, arith, inl, inr, append-nil}
-use Rattle.std.specs.Prelude.{flat_map, nat_lt, IfSome}
+use Rattle.std.proofs.Common.{◌≡◌, ◌∙◌, ℕ, zero, suc, ◌+◌, ◌-◌, ◌*◌, ◌^◌, ◌<◌, ◌≤◌, ◌⊎◌, ◌==◌, Bool, true, false, Some, None, List, [], ◌∷◌, ◌++◌, length, get_or, refl, sym, ap, subst, arith, inl, inr, append-nil}
+use Rattle.std.specs.Prelude.{flat_map, min, nat_lt}
 use Rattle.std.specs.Int.{bit_at}
 unfoldable use Rattle.std.specs.Int.Count.{count_trailing_zeros}
 use Rattle.std.specs.List.{range_with_len}
@@ -13,7 +13,7 @@ use Rattle.niss_search.proofs.CallerLemmas.{range_push}
 use Rattle.niss_embed.specs.declared.corners.Corners.{Corners}
 use Rattle.niss_embed.specs.declared.step_sets.StepSet.{StepSet}
 use Rattle.niss_embed.specs.Corners.{IsTail, AreTails, line_from}
-use Rattle.niss_embed.specs.Parts.{first_in, last_in, step_with, line_with, steps_line, in_brackets_if, IsLeast}
+use Rattle.niss_embed.specs.Parts.{most_in_sets, first_in, last_in, step_with, line_with, steps_line, in_brackets_if, IsLeast}
 
 abbrev pub of : ℕ → StepSet
 of n = record { number = n }
@@ -60,9 +60,9 @@ last_few n some few = (are_ends n some few).4
 
 -- The steps after the first one of a set stand as in the set before it.
 abbrev stays : ℕ → Fact
-stays n = When (nat_lt 0 n) (Numbers 9 λ k. When (nat_lt (first_in (of n)) k) (Equal (bit_at (n - 1) k) (bit_at n k)))
+stays n = When (nat_lt 0 n) (Numbers 25 λ k. When (nat_lt (first_in (of n)) k) (Equal (bit_at (n - 1) k) (bit_at n k)))
 
-later_stay : (n k : ℕ) → 0 < n → n < 256 → k < 9 → first_in (of n) < k → bit_at (n - 1) k ≡ bit_at n k
+later_stay : (n k : ℕ) → 0 < n → n < 256 → k < 25 → first_in (of n) < k → bit_at (n - 1) k ≡ bit_at n k
 later_stay n k some few low high = holds (Numbers 256 stays) refl n few (lt-ltb 0 n some) k low (lt-ltb (first_in (of n)) k high)
 
 same_lines : (f g : ℕ → List ℕ) (a n : ℕ) → ((k : ℕ) → a ≤ k → k < a + n → f k ≡ g k) → flat_map f (range_with_len a n) ≡ flat_map g (range_with_len a n)
@@ -72,7 +72,7 @@ same_lines f g a (suc n) same =
     let rest = same_lines f g (a + 1) n (λ k low high. same k (omega (arith, low)) (omega (arith, high))) in
     λ i. first i ++ rest i
 
-pub tails_kept : (text bounds : List ℕ) (tails : List Corners) (n : ℕ) → 0 < n → n < 256 → length bounds ≤ 9 → AreTails text bounds (of (n - 1)) 0 tails →
+pub tails_kept : (text bounds : List ℕ) (tails : List Corners) (n : ℕ) → 0 < n → n < 256 → length bounds ≤ 25 → AreTails text bounds (of (n - 1)) 0 tails →
     AreTails text bounds (of n) (first_in (of n) + 1) tails
 tails_kept text bounds tails n some few nine are step none from within =
     let so : (k : ℕ) → step ≤ k → k < step + (length bounds - 1 - step) → step_with text bounds (of (n - 1)) k ≡ step_with text bounds (of n) k =
@@ -113,14 +113,9 @@ none_below_more solving n not none other some less = by_number (cases_lt other.n
         let is : other ≡ of n = λ i. record { number = same i } in
         ap solving is ∙ not
 
-pub least_is : (solving : StepSet → Bool) (steps n : ℕ) → 0 < n → n < 2 ^ steps → solving (of n) ≡ true → NoneBelow solving n →
+pub least_is : (solving : StepSet → Bool) (steps n : ℕ) → 0 < n → n < 2 ^ min steps most_in_sets → solving (of n) ≡ true → NoneBelow solving n →
     IsLeast steps solving (Some (of n))
 least_is solving steps n some within is none = ((some, within), is, λ other among less. none other among.0 less)
 
-pub least_none : (solving : StepSet → Bool) (steps n : ℕ) → 2 ^ steps ≤ n → NoneBelow solving n → IsLeast steps solving None
+pub least_none : (solving : StepSet → Bool) (steps n : ℕ) → 2 ^ min steps most_in_sets ≤ n → NoneBelow solving n → IsLeast steps solving None
 least_none solving steps n all none set among = none set among.0 (omega (arith, among.1, all))
-
--- what three facts of a value say, if there is one
-pub if_some : {X : Type 0} (P Q R S : X → Type 0) (o : Option X) → ((x : X) → P x → Q x → R x → S x) → IfSome o P → IfSome o Q → IfSome o R → IfSome o S
-if_some P Q R S None f p q r = tt
-if_some P Q R S (Some x) f p q r = f x p q r

@@ -1,8 +1,9 @@
 -- What the steps of an attempt from each one on do to the corners, if some of them stand in brackets.
-use Rattle.std.proofs.Common.{◌≡◌, ◌∙◌, ◌≢◌, ℕ, suc, ◌+◌, ◌-◌, ◌<◌, ◌≤◌, ◌⊎◌, Bool, true, false, not, List, [], ◌∷◌, ◌++◌, length, get_or, set, Result, Ok, Err, refl, sym, ap, subst, arith, inl, inr, append_assoc, append-nil}
-use Rattle.std.specs.Prelude.{flat_map}
+use Rattle.std.proofs.Common.{◌≡◌, ◌∙◌, ◌≢◌, ℕ, zero, suc, ◌+◌, ◌-◌, ◌<◌, ◌≤◌, ◌⊎◌, ◌==◌, Bool, true, false, not, List, [], ◌∷◌, ◌++◌, length, map, take, drop, add-zero, get_or, set, Result, Ok, Err, refl, sym, ap, subst, arith, inl, inr, append_assoc, append-nil}
+use Rattle.std.specs.Prelude.{flat_map, slice_index}
 use Rattle.std.specs.List.{range_with_len}
 use Rattle.std.proofs.lemmas.Bool.{cases_eq}
+use Rattle.std.proofs.lemmas.Nat.Bits.{bit_at-zero}
 use Rattle.std.proofs.lemmas.List.{get_or-set_same, get_or-set_other}
 use Rattle.niss_moves.specs.Effects.{inverse}
 use Rattle.niss_moves.specs.Line.{Moves, joined_moves}
@@ -12,13 +13,14 @@ use Rattle.niss_moves.specs.declared.fault.ReadFault.{ReadFault}
 use Rattle.niss_moves.specs.declared.token.Token.{Token}
 use Rattle.niss_moves.proofs.CallerLemmas.{inverse-append}
 use Rattle.niss_embed.specs.declared.corners.Corners.{Corners}
+use Rattle.niss_embed.specs.declared.parts.Brackets.TheVariants.{Kept}
 use Rattle.niss_embed.specs.declared.step_corners.StepCorners.{StepCorners}
 use Rattle.niss_embed.specs.declared.step_sets.StepSet.{StepSet}
-use Rattle.niss_embed.specs.Corners.{Brings, Reads, IsTail, AreSteps, AreTails, has_bracket, home, line_from}
-use Rattle.niss_embed.specs.Parts.{has, step_with, steps_line, in_brackets_if, solves_line}
+use Rattle.niss_embed.specs.Corners.{Brings, Reads, Ascends, IsTail, AreSteps, AreTails, has_bracket, home, line_from, no_step}
+use Rattle.niss_embed.specs.Parts.{has, read_byte, step_with, steps_line, in_brackets_if, solves_line}
 use Rattle.niss_embed.proofs.BracketLemmas.{nested_ends_none, more_ends_none}
 use Rattle.niss_embed.proofs.CornerLemmas.{by_nothing}
-use Rattle.niss_embed.proofs.CornerLines.{BringsBoth, IsRead, HasOneReading, IsTested, spells_both, spells_in_brackets, has_none, line_refused}
+use Rattle.niss_embed.proofs.CornerLines.{BringsBoth, IsRead, HasOneReading, IsTested, spells_both, spells_in_brackets, has_none, line_refused, joined_steps, ascends_to}
 
 -- a step outside brackets before later ones
 pub outside_tail : (c : StepCorners) (later inner both bytes more : List ℕ) → BringsBoth later c.inverse.to inner → BringsBoth c.normal.to inner both →
@@ -72,18 +74,15 @@ tail_of_none = inl (record {
   brings = by_nothing;
 })
 
--- What stands alone, two after another, and two around one in brackets.
+-- what stands alone
 pub one_tail : (bytes to : List ℕ) → IsTail (bytes ++ []) to → IsTail bytes to
 one_tail bytes to tail = subst (λ (v : List ℕ). IsTail v to) (append-nil bytes) tail
 
-pub two_tails : (first second to : List ℕ) → IsTail (first ++ (second ++ [])) to → IsTail (first ++ second) to
-two_tails first second to tail = subst (λ (v : List ℕ). IsTail (first ++ v) to) (append-nil second) tail
-
-pub tails_around : (first own second to : List ℕ) → IsTail (first ++ ((40 ∷ own ++ 41 ∷ []) ++ (second ++ []))) to →
-    IsTail ((((first ++ (40 ∷ [])) ++ own) ++ (41 ∷ [])) ++ second) to
-tails_around first own second to tail =
-    let same : first ++ ((40 ∷ own ++ 41 ∷ []) ++ second) ≡ (((first ++ (40 ∷ [])) ++ own) ++ (41 ∷ [])) ++ second = simp append_assoc in
-    subst (λ (v : List ℕ). IsTail v to) (ap (λ v. first ++ ((40 ∷ own ++ 41 ∷ []) ++ v)) (append-nil second) ∙ same) tail
+-- steps between two others
+pub tail_between : (before own after to : List ℕ) → IsTail (before ++ (own ++ after)) to → IsTail (before ++ own ++ after) to
+tail_between before own after to tail =
+    let same : before ++ (own ++ after) ≡ before ++ own ++ after = simp append_assoc in
+    subst (λ (v : List ℕ). IsTail v to) same tail
 
 -- all steps from one on are that one and those after it
 abbrev steps_of : List ℕ → ℕ
@@ -111,18 +110,17 @@ tails_begin text bounds chosen tails room step none after within =
     subst (λ (c : Corners). IsTail (line_from text bounds chosen step) c.to) (sym at_home) tail
 
 -- one step more
-pub tails_more : (text bounds : List ℕ) (chosen : StepSet) (steps same : List StepCorners) (tails : List Corners) (step : ℕ) (none : StepCorners) (nowhere both : Corners)
-    (in_brackets : Bool) → AreSteps text bounds steps → same ≡ steps → step < length steps → step < length tails → in_brackets ≡ has chosen step →
-    ((bytes more : List ℕ) → Reads bytes (get_or same step none) → IsTail more (get_or tails (step + 1) nowhere).to → IsTail (in_brackets_if in_brackets bytes ++ more) both.to) →
+pub tails_more : (text bounds : List ℕ) (chosen : StepSet) (steps : List StepCorners) (tails : List Corners) (step : ℕ) (none : StepCorners) (nowhere both : Corners)
+    (in_brackets : Bool) → AreSteps text bounds steps → step < length steps → step < length tails → in_brackets ≡ has chosen step →
+    ((bytes more : List ℕ) → Reads bytes (get_or steps step none) → IsTail more (get_or tails (step + 1) nowhere).to → IsTail (in_brackets_if in_brackets bytes ++ more) both.to) →
     AreTails text bounds chosen (step + 1) tails → AreTails text bounds chosen step (set tails step both)
-tails_more text bounds chosen steps same tails step none nowhere both in_brackets are same_is l room so later tails_are at other from within = by_place (cases_eq at step)
+tails_more text bounds chosen steps tails step none nowhere both in_brackets are l room so later tails_are at other from within = by_place (cases_eq at step)
   where
     first : IsTail (line_from text bounds chosen step) both.to
     first =
         let own : List ℕ = steps_line text bounds step (step + 1) in
         let rest : List ℕ = line_from text bounds chosen (step + 1) in
-        let reads : Reads own (get_or same step none) = subst (λ (xs : List StepCorners). Reads own (get_or xs step none)) (sym same_is) (are.reads step none l) in
-        let tail : IsTail (in_brackets_if in_brackets own ++ rest) both.to = later own rest reads (tails_are (step + 1) nowhere (omega arith) (omega (arith, l, are.number))) in
+        let tail : IsTail (in_brackets_if in_brackets own ++ rest) both.to = later own rest (are.reads step none l) (tails_are (step + 1) nowhere (omega arith) (omega (arith, l, are.number))) in
         subst (λ (bytes : List ℕ). IsTail bytes both.to)
         (ap (λ b. in_brackets_if b own ++ rest) so ∙ sym (line_next text bounds chosen step (omega (arith, l, are.number)))) tail
 
@@ -134,6 +132,33 @@ tails_more text bounds chosen steps same tails step none nowhere both in_bracket
     by_place (inr not_here) =
         subst (λ (c : Corners). IsTail (line_from text bounds chosen at) c.to) (sym (get_or-set_other tails step at both other not_here))
         (tails_are at other (grind (arith, not_here, from)) within)
+
+-- As they stand the steps from one on are a line.
+pub steps_none : (text bounds : List ℕ) (k : ℕ) → steps_line text bounds k k ≡ []
+steps_none text bounds k =
+    let none : slice_index bounds k - slice_index bounds k ≡ 0 = omega arith in
+    ap (λ n. map (read_byte Kept) (take n (drop (slice_index bounds k) text))) none
+
+plain_line : (text bounds : List ℕ) (n step : ℕ) → Ascends bounds → step + n < length bounds →
+    flat_map (step_with text bounds no_step) (range_with_len step n) ≡ steps_line text bounds step (step + n)
+plain_line text bounds zero step up l = sym (ap (steps_line text bounds step) (add-zero step) ∙ steps_none text bounds step)
+plain_line text bounds (suc n) step up l =
+    let own : step_with text bounds no_step step ≡ steps_line text bounds step (step + 1) =
+    ap (λ bit. in_brackets_if (bit == 1) (steps_line text bounds step (step + 1))) (bit_at-zero step) in
+    let rest = plain_line text bounds n (step + 1) up (omega (arith, l)) in
+    let end : step + 1 + n ≡ step + suc n = omega arith in
+    let first : slice_index bounds step ≤ slice_index bounds (step + 1) = up step (omega (arith, l)) in
+    let next : slice_index bounds (step + 1) ≤ slice_index bounds (step + 1 + n) = ascends_to bounds (step + 1) n up (omega (arith, l)) in
+    (λ i. own i ++ rest i) ∙ joined_steps text (slice_index bounds step) (slice_index bounds (step + 1)) (slice_index bounds (step + 1 + n)) first next
+    ∙ ap (steps_line text bounds step) end
+
+pub plain_tail : (text bounds : List ℕ) (tails : List Corners) (step : ℕ) (none : Corners) → Ascends bounds → AreTails text bounds no_step 0 tails →
+    step < length bounds → IsTail (steps_line text bounds step (length bounds - 1)) (get_or tails step none).to
+plain_tail text bounds tails step none up are l =
+    let end : step + (length bounds - 1 - step) ≡ length bounds - 1 = omega (arith, l) in
+    let same : line_from text bounds no_step step ≡ steps_line text bounds step (length bounds - 1) =
+    plain_line text bounds (length bounds - 1 - step) step up (omega (arith, l, end)) ∙ ap (steps_line text bounds step) end in
+    subst (λ (bytes : List ℕ). IsTail bytes (get_or tails step none).to) same (are step none (omega arith) l)
 
 not_both : (b : Bool) → b ≡ true → b ≡ false → ⊥
 not_both true t f = cc f

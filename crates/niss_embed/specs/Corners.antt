@@ -1,5 +1,5 @@
 -- Where moves bring the corners of the cube, by numbers of their places; and what parts of a line do to the corners.
-use Rattle.std.specs.Prelude.{◌≡◌, ℕ, ◌+◌, ◌-◌, ◌*◌, ◌<◌, ◌≤◌, ◌⊎◌, ◌==◌, Bool, true, not, List, [], ◌∷◌, ◌++◌, length, map, flat_map, IfSome, get_or, slice_index, slice_range}
+use Rattle.std.specs.Prelude.{◌≡◌, ℕ, ◌+◌, ◌-◌, ◌*◌, ◌<◌, ◌≤◌, ◌⊎◌, ◌==◌, Bool, true, not, ◌||◌, List, [], ◌∷◌, ◌++◌, length, map, flat_map, IfSome, get_or, slice_index, slice_range}
 use Rattle.std.specs.List.{list_any, range_with_len}
 use Rattle.niss_moves.specs.Effects.{effect, inverse}
 use Rattle.niss_moves.specs.Line.{Spells, Moves, joined_moves}
@@ -29,6 +29,10 @@ corner_of q = side q.cell.x + 2 * side q.cell.y + 4 * side q.cell.z
 pub record Brings (to : List ℕ) (s : List Token) : Type 0 where
   pub stays : (q : Place) → is_corner q ≡ true → is_corner (effect s q) ≡ true
   pub there : (q : Place) → is_corner q ≡ true → corner_of (effect s q) ≡ slice_index to (corner_of q)
+
+-- Places whose numbers differ so lie side by side on an edge.
+abbrev pub is_one_bit : ℕ → Bool
+is_one_bit bits = (bits == 1) || ((bits == 2) || (bits == 4))
 
 abbrev pub home : List ℕ
 home = 0 ∷ 1 ∷ 2 ∷ 3 ∷ 4 ∷ 5 ∷ 6 ∷ 7 ∷ []
@@ -73,25 +77,6 @@ pub record AreSteps (text bounds : List ℕ) (steps : List StepCorners) : Type 0
   pub are_bounds : AreBounds bounds
   pub reads : (k : ℕ) (none : StepCorners) → k < length steps → Reads (steps_line text bounds k (k + 1)) (get_or steps k none)
 
--- what a scramble and the three parts of all steps do
-pub record IsAround (around : Around) (scramble : Moves) (before own after : List ℕ) : Type 0 where
-  pub scrambles : Brings around.scramble.to (joined_moves scramble)
-  pub reads_before : Reads (map (read_byte Kept) before) around.before
-  pub reads_own : Reads (map (read_byte Kept) own) around.own
-  pub reads_after : Reads (map (read_byte Kept) after) around.after
-
--- what a scramble does and, if it is known, each step
-pub record IsAttempt (attempt : AttemptCorners) (scramble : Moves) (text bounds : List ℕ) : Type 0 where
-  pub scrambles : Brings attempt.scramble.to (joined_moves scramble)
-  pub are_steps : IfSome attempt.steps (λ steps. AreSteps text bounds steps.items)
-
--- the same for the steps of a part
-abbrev pub IsAroundPart : Moves → (text bounds : List ℕ) → Part → Around → Type 0
-IsAroundPart scramble text bounds p around =
-    IsAround around scramble (slice_range text 0 (slice_index bounds p.first))
-    (slice_range text (slice_index bounds p.first) (slice_index bounds p.behind))
-    (slice_range text (slice_index bounds p.behind) (end_of_steps bounds))
-
 -- The bytes spell moves of which those outside brackets, and then the inverse of those inside, bring corners so.
 pub record BringsLine (bytes to : List ℕ) : Type 0 where
   pub normal : List Token
@@ -115,3 +100,27 @@ line_from text bounds set step = flat_map (step_with text bounds set) (range_wit
 abbrev pub AreTails : (text bounds : List ℕ) → StepSet → (first : ℕ) → List Corners → Type 0
 AreTails text bounds set first tails =
     (step : ℕ) (none : Corners) → first ≤ step → step < length bounds → IsTail (line_from text bounds set step) (get_or tails step none).to
+
+-- no step
+abbrev pub no_step : StepSet
+no_step = record { number = 0 }
+
+-- what a scramble does and, if each step is a line by itself, the steps
+pub record IsAttempt (attempt : AttemptCorners) (scramble : Moves) (text bounds : List ℕ) : Type 0 where
+  pub number : length bounds ≡ length attempt.steps.items + 1
+  pub scrambles : Brings attempt.scramble.to (joined_moves scramble)
+  pub are_steps : attempt.are_lines ≡ true → AreSteps text bounds attempt.steps.items
+  pub are_tails : attempt.are_lines ≡ true → AreTails text bounds no_step 0 attempt.tails
+
+-- what the three parts of all steps do
+pub record IsAround (around : Around) (before own after : List ℕ) : Type 0 where
+  pub reads_before : Reads before around.before
+  pub reads_own : Reads own around.own
+  pub ends : IsTail after around.after.to
+
+-- what a scramble does and, if each step is a line by itself, the steps before some, these, and all after them
+pub record IsAroundPart (scramble : Moves) (text bounds : List ℕ) (first behind : ℕ) (around : Around) : Type 0 where
+  pub attempt : IsAttempt around.attempt.now scramble text bounds
+  pub ordered : (first ≤ behind) × (behind < length bounds)
+  pub are : around.attempt.now.are_lines ≡ true →
+      IsAround around (steps_line text bounds 0 first) (steps_line text bounds first behind) (steps_line text bounds behind (length bounds - 1))

@@ -1,5 +1,5 @@
 -- The parts of some steps, and the first of them that solves a scramble.
-use Rattle.std.specs.Prelude.{◌≡◌, ℕ, ◌+◌, ◌-◌, ◌^◌, ◌<◌, ◌≤◌, ◌⊎◌, ◌==◌, nat_lt, if◌then◌else◌, Bool, true, false, ◌&&◌, ◌||◌, Option, None, Some, Result, Ok, Err, List, [], ◌∷◌, ◌++◌, length, map, flat_map, take, slice_index, slice_range}
+use Rattle.std.specs.Prelude.{◌≡◌, ℕ, ◌+◌, ◌-◌, ◌^◌, ◌<◌, ◌≤◌, ◌⊎◌, ◌==◌, nat_lt, if◌then◌else◌, Bool, true, false, ◌&&◌, ◌||◌, min, Option, None, Some, Result, Ok, Err, List, [], ◌∷◌, ◌++◌, length, map, flat_map, take, slice_index, slice_range}
 use Rattle.std.specs.Int.{bit_at}
 use Rattle.std.specs.List.{filter, range_with_len}
 use Rattle.niss_moves.specs.declared.fault.ReadFault.{ReadFault}
@@ -20,13 +20,23 @@ use Rattle.niss_embed.specs.declared.parts.Found.TheVariants as found
 use Rattle.niss_embed.specs.declared.parts.PartAnswer.{PartAnswer}
 use Rattle.niss_embed.specs.declared.step_sets.StepSet.{StepSet}
 
+-- how many steps are looked at, of how many of them sets are tried, and how many bytes they have at most
+abbrev pub most_steps : ℕ
+most_steps = 24
+
+abbrev pub most_in_sets : ℕ
+most_in_sets = 8
+
+abbrev pub most_step_bytes : ℕ
+most_step_bytes = 65536
+
 -- a step ends before this place: a line feed does, or the text
 abbrev pub is_end : List ℕ → ℕ → Bool
 is_end text place = (slice_index text (place - 1) == 10) || (place == length text)
 
--- where the first step begins, and where the first eight end
+-- where the first step begins, and where each ends that is looked at
 unfoldable pub bounds_of : List ℕ → List ℕ
-bounds_of text = 0 ∷ take 8 (filter (is_end text) (range_with_len 1 (length text)))
+bounds_of text = 0 ∷ take most_steps (filter (is_end text) (range_with_len 1 (length text)))
 
 -- what a byte of steps is read as: a line feed, and a bracket that is dropped, is a blank
 abbrev pub read_byte : Brackets → ℕ → ℕ
@@ -36,22 +46,32 @@ read_byte Dropped byte = if (byte == 10) || ((byte == 40) || (byte == 41)) then 
 abbrev pub part : How → (first behind : ℕ) → Part
 part how first behind = record { how = how; first = first; behind = behind }
 
+-- the steps from one to another as a line, by the places where steps begin and end
+abbrev pub steps_line : (text bounds : List ℕ) (first behind : ℕ) → List ℕ
+steps_line text bounds first behind = map (read_byte Kept) (slice_range text (slice_index bounds first) (slice_index bounds behind))
+
+-- bytes in brackets of their own, or not
+abbrev pub in_brackets_if : Bool → List ℕ → List ℕ
+in_brackets_if true bytes = 40 ∷ bytes ++ 41 ∷ []
+in_brackets_if false bytes = bytes
+
 -- the line of all steps, in three parts, if this is done with the second one
 abbrev pub arranged : How → (before own after : List ℕ) → List ℕ
-arranged Alone before own after = map (read_byte Kept) own
-arranged LeftOut before own after = map (read_byte Kept) before ++ map (read_byte Kept) after
-arranged InBrackets before own after =
-    map (read_byte Kept) before ++ 40 ∷ [] ++ map (read_byte Kept) own ++ 41 ∷ [] ++ map (read_byte Kept) after
+arranged Alone before own after = own
+arranged LeftOut before own after = before ++ after
+arranged InBrackets before own after = before ++ in_brackets_if true own ++ after
 
--- where the last step ends
+-- the number of the steps, and where the last one ends
+abbrev pub number_of_steps : List ℕ → ℕ
+number_of_steps bounds = length bounds - 1
+
 abbrev pub end_of_steps : List ℕ → ℕ
-end_of_steps bounds = slice_index bounds (length bounds - 1)
+end_of_steps bounds = slice_index bounds (number_of_steps bounds)
 
--- the line of a part, by the places where steps begin and end
+-- the line of a part
 abbrev pub part_line : List ℕ → List ℕ → Part → List ℕ
 part_line text bounds p =
-    arranged p.how (slice_range text 0 (slice_index bounds p.first)) (slice_range text (slice_index bounds p.first) (slice_index bounds p.behind))
-    (slice_range text (slice_index bounds p.behind) (end_of_steps bounds))
+    arranged p.how (steps_line text bounds 0 p.first) (steps_line text bounds p.first p.behind) (steps_line text bounds p.behind (number_of_steps bounds))
 
 -- A line that is read has moves and solves a scramble that is read. One that has a fault doesn't.
 abbrev pub solves_line : Result Moves ReadFault → Result Moves ReadFault → Bool
@@ -71,9 +91,9 @@ solves_whole scramble text bounds =
 abbrev pub has : StepSet → ℕ → Bool
 has set step = bit_at set.number step == 1
 
--- which of the first eight steps these are
+-- which of the first steps these are
 abbrev pub steps_in : StepSet → List ℕ
-steps_in set = filter (has set) (range_with_len 0 8)
+steps_in set = filter (has set) (range_with_len 0 most_in_sets)
 
 abbrev pub first_in : StepSet → ℕ
 first_in set = slice_index (steps_in set) 0
@@ -81,22 +101,13 @@ first_in set = slice_index (steps_in set) 0
 abbrev pub last_in : StepSet → ℕ
 last_in set = slice_index (steps_in set) (length (steps_in set) - 1)
 
--- the steps from one to another as a line
-abbrev pub steps_line : (text bounds : List ℕ) (first behind : ℕ) → List ℕ
-steps_line text bounds first behind = map (read_byte Kept) (slice_range text (slice_index bounds first) (slice_index bounds behind))
-
--- bytes in brackets of their own, or not
-abbrev pub in_brackets_if : Bool → List ℕ → List ℕ
-in_brackets_if true bytes = 40 ∷ bytes ++ 41 ∷ []
-in_brackets_if false bytes = bytes
-
 -- a step as a line, which stands in brackets if it is one of these
 abbrev pub step_with : (text bounds : List ℕ) → StepSet → ℕ → List ℕ
 step_with text bounds set step = in_brackets_if (has set step) (steps_line text bounds step (step + 1))
 
 -- the line of all steps in which each of these stands in brackets of its own
 abbrev pub line_with : (text bounds : List ℕ) → StepSet → List ℕ
-line_with text bounds set = flat_map (step_with text bounds set) (range_with_len 0 (length bounds - 1))
+line_with text bounds set = flat_map (step_with text bounds set) (range_with_len 0 (number_of_steps bounds))
 
 abbrev pub solves_with : Result Moves ReadFault → (text bounds : List ℕ) → StepSet → Bool
 solves_with scramble text bounds set = solves_line scramble (read_line (line_with text bounds set))
@@ -126,9 +137,14 @@ IsFirstFrom steps solving first (Some p) =
     (p.first ≡ first) × IsPart steps p × (solving p ≡ true) × ((q : Part) → IsPart steps q → q.first ≡ first → IsBefore q p → solving q ≡ false)
 IsFirstFrom steps solving first None = (q : Part) → IsPart steps q → q.first ≡ first → solving q ≡ false
 
--- these are some of so many steps
+-- of all parts of so many steps this is the first that solves, if one does
+abbrev pub IsFirst : ℕ → (Part → Bool) → Option Part → Type 0
+IsFirst steps solving (Some p) = IsPart steps p × (solving p ≡ true) × ((q : Part) → IsPart steps q → IsBefore q p → solving q ≡ false)
+IsFirst steps solving None = (q : Part) → IsPart steps q → solving q ≡ false
+
+-- these are some of so many steps, and of the first ones
 abbrev pub AreSome : ℕ → StepSet → Type 0
-AreSome steps set = (0 < set.number) × (set.number < 2 ^ steps)
+AreSome steps set = (0 < set.number) × (set.number < 2 ^ min steps most_in_sets)
 
 -- of the sets of so many steps this is the one with the lowest number that solves, if one does
 abbrev pub IsLeast : ℕ → (StepSet → Bool) → Option StepSet → Type 0
@@ -143,18 +159,13 @@ IsWithin steps found.WithoutBrackets = Unit {0}
 IsWithin steps (found.EachInBrackets set) = AreSome steps set
 IsWithin steps found.Nothing = Unit {0}
 
--- No part of so many steps solves.
-abbrev pub NoneSolves : ℕ → (Part → Bool) → Type 0
-NoneSolves steps solving = (q : Part) → IsPart steps q → solving q ≡ false
-
 -- What is found of so many steps, by which parts solve, whether all do without their brackets, and which sets solve if each
 -- step of theirs is in brackets: the first part that solves, else all, else the least set, else nothing.
 abbrev pub IsFound : ℕ → (Part → Bool) → Bool → (StepSet → Bool) → Found → Type 0
-IsFound steps solving whole with_set (found.Part p) =
-    IsPart steps p × (solving p ≡ true) × ((q : Part) → IsPart steps q → IsBefore q p → solving q ≡ false)
-IsFound steps solving whole with_set found.WithoutBrackets = NoneSolves steps solving × (whole ≡ true)
-IsFound steps solving whole with_set (found.EachInBrackets set) = NoneSolves steps solving × (whole ≡ false) × IsLeast steps with_set (Some set)
-IsFound steps solving whole with_set found.Nothing = NoneSolves steps solving × (whole ≡ false) × IsLeast steps with_set None
+IsFound steps solving whole with_set (found.Part p) = IsFirst steps solving (Some p)
+IsFound steps solving whole with_set found.WithoutBrackets = IsFirst steps solving None × (whole ≡ true)
+IsFound steps solving whole with_set (found.EachInBrackets set) = IsFirst steps solving None × (whole ≡ false) × IsLeast steps with_set (Some set)
+IsFound steps solving whole with_set found.Nothing = IsFirst steps solving None × (whole ≡ false) × IsLeast steps with_set None
 
 abbrev pub no_part : Status → PartAnswer
 no_part status = record { status = status_number status; how = 0; first = 0; last = 0; begin = 0 }
@@ -163,7 +174,7 @@ no_part status = record { status = status_number status; how = 0; first = 0; las
 abbrev pub answer_of : List ℕ → Found → PartAnswer
 answer_of bounds (found.Part p) =
     record { status = status_number Done; how = how_number p.how; first = p.first; last = p.behind - 1; begin = slice_index bounds p.first }
-answer_of bounds found.WithoutBrackets = record { status = status_number Done; how = 4; first = 0; last = length bounds - 1 - 1; begin = 0 }
+answer_of bounds found.WithoutBrackets = record { status = status_number Done; how = 4; first = 0; last = number_of_steps bounds - 1; begin = 0 }
 answer_of bounds (found.EachInBrackets set) =
     record { status = status_number Done; how = 5; first = first_in set; last = last_in set; begin = slice_index bounds (first_in set) }
 answer_of bounds found.Nothing = no_part Done
@@ -172,14 +183,14 @@ answer_of bounds found.Nothing = no_part Done
 abbrev pub Tells : Bool → (scramble steps bounds : List ℕ) → PartAnswer → Type 0
 Tells true scramble steps bounds answer = answer ≡ no_part Stopped
 Tells false scramble steps bounds answer =
-    (it : Found) × IsFound (length bounds - 1) (solves_part (read_line scramble) steps bounds) (solves_whole (read_line scramble) steps bounds)
+    (it : Found) × IsFound (number_of_steps bounds) (solves_part (read_line scramble) steps bounds) (solves_whole (read_line scramble) steps bounds)
     (solves_with (read_line scramble) steps bounds) it
     × (answer ≡ answer_of bounds it)
 
--- the first eight steps
+-- the steps that are looked at
 abbrev pub first_steps : List ℕ → List ℕ
 first_steps text = take (end_of_steps (bounds_of text)) text
 
 abbrev pub TellsPart : (scramble steps : List ℕ) → PartAnswer → Type 0
 TellsPart scramble steps answer = let bounds = bounds_of steps in
-    Tells (nat_lt most_bytes (length scramble) || nat_lt 65536 (end_of_steps bounds)) scramble (first_steps steps) bounds answer
+    Tells (nat_lt most_bytes (length scramble) || nat_lt most_step_bytes (end_of_steps bounds)) scramble (first_steps steps) bounds answer

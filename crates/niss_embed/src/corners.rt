@@ -3,7 +3,7 @@ ghost use Rattle.std.specs.Prelude.{◌≡◌, ℕ, List, ◌∷◌, [], ◌++�
 ghost use Rattle.niss_moves.specs.Effects.{inverse};
 ghost use Rattle.niss_moves.specs.Solving.{IsRotated};
 ghost use Rattle.niss_moves.specs.declared.token.Token.{Token};
-ghost use Rattle.niss_embed.specs.Corners.{Brings, corners_after};
+ghost use Rattle.niss_embed.specs.Corners.{Brings, corners_after, is_one_bit};
 
 use niss_moves::Token;
 
@@ -33,6 +33,13 @@ macro_rules! powers {
             Corners { to: thrice!($to; 0 1 2 3 4 5 6 7) },
         ]
     };
+}
+
+/// Whether two places whose numbers differ by these bits lie side by side on an edge.
+fn is_one_bit(bits: u8) -> bool
+    ensures { result ≡ is_one_bit bits }
+{
+    bits == 1 || (bits == 2 || bits == 4)
 }
 
 /// The turns of the faces U, D, R, L, F and B, by their powers.
@@ -112,11 +119,26 @@ impl Corners {
     }
 
     /// Whether corners of opposite places come to opposite places, as rotations of the whole cube bring them.
-    pub fn opposites_stay(&self) -> bool
+    fn opposites_stay(&self) -> bool
         ensures { (s : List Token) → Brings self.now.to s → IsRotated s → IsTrue result }
     {
         self.to[0] ^ self.to[7] == 7
             && (self.to[1] ^ self.to[6] == 7
                 && (self.to[2] ^ self.to[5] == 7 && self.to[3] ^ self.to[4] == 7))
+    }
+
+    /// Whether the neighbours of a corner stay beside it.
+    fn neighbours_stay(&self) -> bool
+        ensures { (s : List Token) → Brings self.now.to s → IsRotated s → IsTrue result }
+    {
+        is_one_bit(self.to[0] ^ self.to[1])
+            && (is_one_bit(self.to[0] ^ self.to[2]) && is_one_bit(self.to[0] ^ self.to[4]))
+    }
+
+    /// Whether corners come where a rotation of the whole cube, or its image in a mirror, brings them.
+    pub fn may_be_rotated(&self) -> bool
+        ensures { (s : List Token) → Brings self.now.to s → IsRotated s → IsTrue result }
+    {
+        self.opposites_stay() && self.neighbours_stay()
     }
 }

@@ -41,6 +41,7 @@ mod runs;
 mod search_answer;
 mod sides;
 mod sides_answer;
+mod step_bounds;
 mod step_corners;
 mod step_sets;
 mod stretch;

@@ -1,17 +1,18 @@
 //! Whether a part of the steps of an attempt solves its scramble.
-ghost use Rattle.std.specs.Prelude.{◌≡◌, ◌<◌, ◌≤◌, ◌+◌, ◌-◌, ◌++◌, ℕ, List, [], ◌∷◌, Ok, length, map, take, IfSome};
+ghost use Rattle.std.specs.Prelude.{◌≡◌, ◌<◌, ◌≤◌, ◌+◌, ◌-◌, ◌++◌, ℕ, List, [], ◌∷◌, Ok, length, map, take};
 ghost use Rattle.niss_moves.specs.Reader.{IsFed, read_line};
-ghost use Rattle.niss_embed.specs.Parts.{bounds_of, is_end, read_byte, how_number, arranged, solves_line, solves_part, solves_whole, solves_with, part};
+ghost use Rattle.niss_embed.specs.Parts.{read_byte, how_number, number_of_steps, arranged, solves_line, solves_part, solves_whole, solves_with, part};
 ghost use Rattle.niss_shell.specs.Words.{most_bytes};
 ghost use Rattle.niss_embed.specs.Corners.{AreBounds, IsAttempt, IsAroundPart};
-ghost use Rattle.niss_embed.specs.Parts.{IsHow, IsFirstFrom, IsFound, IsWithin, TellsPart, answer_of, no_part};
+ghost use Rattle.niss_embed.specs.Parts.{IsHow, IsFirst, IsFirstFrom, IsFound, IsWithin, TellsPart, answer_of, no_part};
+ghost use Rattle.niss_embed.specs.declared.parts.Brackets.TheVariants.{Kept};
 
 use crate::answer::Status;
 use crate::line_texts::read_by;
+use crate::step_bounds::bounds_of;
 use crate::step_corners::{Around, AttemptCorners};
 use crate::step_sets::{StepSet, feed_step, least_set};
 use crate::stretch::stretch;
-use arrayvec::ArrayVec;
 use niss_moves::{LineReader, Niss};
 use niss_shell::{MOST_BYTES, move_count, solves};
 
@@ -98,41 +99,6 @@ impl Brackets {
     }
 }
 
-/// Whether a step ends before a place of a text.
-fn is_end(text: &[u8], place: usize) -> bool
-    requires { (0 < place) × (place ≤ length text.now) }
-    ensures { result ≡ is_end text.now place }
-{
-    text[place - 1] == b'\n' || place == text.len()
-}
-
-/// The place where the first step begins, and those where the first eight end.
-fn bounds_of(text: &[u8]) -> ArrayVec<usize, 9>
-    ensures are { result.items ≡ bounds_of text.now }
-    ensures few { (0 < length result.items) × (length result.items ≤ 9) }
-    ensures bounds { AreBounds result.items }
-{
-    let mut bounds = ArrayVec::new();
-    bounds.push(0);
-    for at in 0..text.len() {
-        if !is_end(text, at + 1) {
-            continue;
-        }
-        push_bound(&mut bounds, at + 1);
-    }
-    bounds
-}
-
-/// Adds a place, if there is room.
-fn push_bound(bounds: &mut ArrayVec<usize, 9>, place: usize)
-    ensures room { length bounds.old.items < 9 → bounds.new.items ≡ bounds.old.items ++ place ∷ [] }
-    ensures full { 9 ≤ length bounds.old.items → bounds.new.items ≡ bounds.old.items }
-{
-    if !bounds.is_full() {
-        bounds.push(place);
-    }
-}
-
 /// The first bytes of a text, so many at most.
 fn first_bytes(text: &[u8], count: usize) -> &[u8]
     ensures is { result.now ≡ take count text.now }
@@ -169,7 +135,7 @@ pub fn solves_so(scramble: &Niss, reader: &mut LineReader) -> bool
 fn feed_part(reader: &mut LineReader, how: How, before: &[u8], own: &[u8], after: &[u8])
     requires new { (reader.old.fed ≡ 0) × IsFed reader.old [] }
     requires room { length before.now + length own.now + length after.now < 16777214 }
-    ensures { IsFed reader.new (arranged how before.now own.now after.now) }
+    ensures { IsFed reader.new (arranged how (map (read_byte Kept) before.now) (map (read_byte Kept) own.now) (map (read_byte Kept) after.now)) }
 {
     match how {
         How::Alone => feed(reader, own, Brackets::Kept),
@@ -191,7 +157,7 @@ fn solves_part(scramble: &Niss, text: &[u8], bounds: &[usize], part: Part) -> bo
     requires room { length text.now ≤ 65536 }
     ensures { result ≡ solves_part (Ok scramble.now) text.now bounds.now part }
 {
-    let before = stretch(text, 0, bounds[part.first]);
+    let before = stretch(text, bounds[0], bounds[part.first]);
     let own = stretch(text, bounds[part.first], bounds[part.behind]);
     let after = stretch(text, bounds[part.behind], bounds[bounds.len() - 1]);
     let mut reader = LineReader::new();
@@ -212,24 +178,12 @@ fn solves_whole(scramble: &Niss, text: &[u8], bounds: &[usize]) -> bool
 }
 
 /// Whether a part of steps solves a scramble. Most parts are seen not to by what they do to the corners.
-fn part_solves(
-    scramble: &Niss,
-    text: &[u8],
-    bounds: &[usize],
-    part: Part,
-    around: &Option<Around>,
-) -> bool
-    requires steps { (part.first < length bounds.now) × (part.behind < length bounds.now) }
+fn part_solves(scramble: &Niss, text: &[u8], bounds: &[usize], part: Part, around: &Around) -> bool
     requires room { length text.now ≤ 65536 }
-    requires around { IfSome around.now (IsAroundPart scramble.now text.now bounds.now part) }
+    requires around { IsAroundPart scramble.now text.now bounds.now part.first part.behind around.now }
     ensures { result ≡ solves_part (Ok scramble.now) text.now bounds.now part }
 {
-    if let Some(around) = around {
-        if !around.may_solve(part.how) {
-            return false;
-        }
-    }
-    solves_part(scramble, text, bounds, part)
+    around.may_solve(part.how) && solves_part(scramble, text, bounds, part)
 }
 
 /// What is done with steps so that a scramble is solved, if anything does. The part names the steps.
@@ -238,11 +192,10 @@ fn solving_how(
     text: &[u8],
     bounds: &[usize],
     alone: Part,
-    around: &Option<Around>,
+    around: &Around,
 ) -> Option<How>
-    requires steps { (alone.first < length bounds.now) × (alone.behind < length bounds.now) }
     requires room { length text.now ≤ 65536 }
-    requires around { IfSome around.now (IsAroundPart scramble.now text.now bounds.now alone) }
+    requires around { IsAroundPart scramble.now text.now bounds.now alone.first alone.behind around.now }
     ensures { IsHow (λ how. solves_part (Ok scramble.now) text.now bounds.now (part how alone.first alone.behind)) result }
 {
     let alone = Part {
@@ -274,21 +227,20 @@ fn part_from(
     scramble: &Niss,
     text: &[u8],
     bounds: &[usize],
-    corners: &AttemptCorners,
     first: usize,
+    before: &Around,
 ) -> Option<Part>
-    requires steps { first < length bounds.now }
     requires room { length text.now ≤ 65536 }
-    requires bounds { AreBounds bounds.now }
-    requires corners { IsAttempt corners.now scramble.now text.now bounds.now }
-    ensures { IsFirstFrom (length bounds.now - 1) (solves_part (Ok scramble.now) text.now bounds.now) first result }
+    requires around { IsAroundPart scramble.now text.now bounds.now first first before.now }
+    ensures { IsFirstFrom (number_of_steps bounds.now) (solves_part (Ok scramble.now) text.now bounds.now) first result }
 {
-    for behind in first + 1..bounds.len() {
-        let around = corners.around(first, behind);
+    let mut around = *before;
+    for step in first..bounds.len() - 1 {
+        around = around.longer(step);
         let alone = Part {
             how: How::Alone,
             first,
-            behind,
+            behind: step + 1,
         };
         if let Some(how) = solving_how(scramble, text, bounds, alone, &around) {
             return Some(Part { how, ..alone });
@@ -297,19 +249,38 @@ fn part_from(
     None
 }
 
+/// The first part of steps that solves a scramble.
+fn first_part(
+    scramble: &Niss,
+    text: &[u8],
+    bounds: &[usize],
+    corners: &AttemptCorners,
+) -> Option<Part>
+    requires room { length text.now ≤ 65536 }
+    requires corners { IsAttempt corners.now scramble.now text.now bounds.now }
+    ensures { IsFirst (number_of_steps bounds.now) (solves_part (Ok scramble.now) text.now bounds.now) result }
+{
+    let mut before = Around::begin(corners);
+    for first in 0..bounds.len() - 1 {
+        if let Some(part) = part_from(scramble, text, bounds, first, &before) {
+            return Some(part);
+        }
+        before = before.longer(first).passed();
+    }
+    None
+}
+
 /// What is found in steps.
 fn found_in(scramble: &Niss, text: &[u8], bounds: &[usize]) -> Found
-    requires some { (0 < length bounds.now) × (length bounds.now ≤ 9) }
+    requires some { (0 < length bounds.now) × (length bounds.now ≤ 25) }
     requires bounds { AreBounds bounds.now }
     requires room { length text.now ≤ 65536 }
-    ensures { IsFound (length bounds.now - 1) (solves_part (Ok scramble.now) text.now bounds.now)
+    ensures { IsFound (number_of_steps bounds.now) (solves_part (Ok scramble.now) text.now bounds.now)
         (solves_whole (Ok scramble.now) text.now bounds.now) (solves_with (Ok scramble.now) text.now bounds.now) result }
 {
     let corners = AttemptCorners::of(scramble, text, bounds);
-    for first in 0..bounds.len() {
-        if let Some(part) = part_from(scramble, text, bounds, &corners, first) {
-            return Found::Part(part);
-        }
+    if let Some(part) = first_part(scramble, text, bounds, &corners) {
+        return Found::Part(part);
     }
     if solves_whole(scramble, text, bounds) {
         return Found::WithoutBrackets;
@@ -322,10 +293,10 @@ fn found_in(scramble: &Niss, text: &[u8], bounds: &[usize]) -> Found
 
 /// What is found in steps after a scramble: nothing if that has a fault.
 fn found_after(scramble: &[u8], text: &[u8], bounds: &[usize]) -> Found
-    requires some { (0 < length bounds.now) × (length bounds.now ≤ 9) }
+    requires some { (0 < length bounds.now) × (length bounds.now ≤ 25) }
     requires bounds { AreBounds bounds.now }
     requires room { (length scramble.now ≤ most_bytes) × (length text.now ≤ 65536) }
-    ensures { IsFound (length bounds.now - 1) (solves_part (read_line scramble.now) text.now bounds.now)
+    ensures { IsFound (number_of_steps bounds.now) (solves_part (read_line scramble.now) text.now bounds.now)
         (solves_whole (read_line scramble.now) text.now bounds.now) (solves_with (read_line scramble.now) text.now bounds.now) result }
 {
     let mut reader = LineReader::new();
@@ -351,8 +322,8 @@ impl PartAnswer {
 
     /// The answer to steps that begin and end at these places.
     fn of(found: Found, bounds: &[usize]) -> PartAnswer
-        requires few { (0 < length bounds.now) × (length bounds.now ≤ 9) }
-        requires part { IsWithin (length bounds.now - 1) found }
+        requires few { (0 < length bounds.now) × (length bounds.now ≤ 25) }
+        requires part { IsWithin (number_of_steps bounds.now) found }
         ensures { result ≡ answer_of bounds.now found }
     {
         let done = PartAnswer::nothing(Status::Done);

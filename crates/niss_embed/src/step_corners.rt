@@ -1,16 +1,16 @@
 //! What steps of an attempt do to the corners of the cube.
-ghost use Rattle.std.specs.Prelude.{◌≡◌, ◌<◌, ◌≤◌, ℕ, false, List, [], ◌++◌, Ok, map, IfSome, length};
+ghost use Rattle.std.specs.Prelude.{◌≡◌, ◌<◌, ◌≤◌, ◌+◌, ℕ, true, false, List, [], ◌++◌, Ok, map, IfSome, length};
 ghost use Rattle.niss_moves.specs.Effects.{inverse};
 ghost use Rattle.niss_moves.specs.Line.{Moves, joined_moves};
 ghost use Rattle.niss_moves.specs.Reader.{read_line};
 ghost use Rattle.niss_embed.specs.Corners.{Brings, Reads, AreBounds, AreSteps, IsAround, IsAroundPart, IsAttempt, IsTail, AreTails};
-ghost use Rattle.niss_embed.specs.Parts.{read_byte, arranged, solves_line, part, steps_line, in_brackets_if};
-ghost use Rattle.niss_embed.specs.declared.parts.How.TheVariants.{Alone};
+ghost use Rattle.niss_embed.specs.Parts.{read_byte, arranged, solves_line, solves_part, part, in_brackets_if};
 ghost use Rattle.niss_embed.specs.declared.parts.Brackets.TheVariants.{Kept};
 
 use crate::corners::Corners;
 use crate::line_facts::has_brackets;
 use crate::parts::{Brackets, How, feed};
+use crate::step_bounds::{MOST_BOUNDS, MOST_STEPS};
 use crate::step_sets::StepSet;
 use crate::stretch::stretch;
 use arrayvec::ArrayVec;
@@ -104,43 +104,41 @@ fn corners_of_step(step: &[u8]) -> Option<StepCorners>
     }
 }
 
-/// What each step does, if each is a line by itself.
-fn corners_of_steps(text: &[u8], bounds: &[usize]) -> Option<ArrayVec<StepCorners, 8>>
+/// Adds what each step does, and says whether each is a line by itself.
+fn are_lines(text: &[u8], bounds: &[usize], steps: &mut ArrayVec<StepCorners, MOST_STEPS>) -> bool
     requires room { length text.now ≤ 65536 }
-    requires few { (0 < length bounds.now) × (length bounds.now ≤ 9) }
+    requires few { (0 < length bounds.now) × (length bounds.now ≤ 25) }
     requires bounds { AreBounds bounds.now }
-    ensures { IfSome result (λ steps. AreSteps text.now bounds.now steps.items) }
+    requires none { steps.old.items ≡ [] }
+    ensures number { length bounds.now ≡ length steps.new.items + 1 }
+    ensures are { result ≡ true → AreSteps text.now bounds.now steps.new.items }
 {
-    let mut steps = ArrayVec::new();
+    let mut all = true;
     for at in 1..bounds.len() {
-        steps.push(corners_of_step(stretch(text, bounds[at - 1], bounds[at]))?);
+        match corners_of_step(stretch(text, bounds[at - 1], bounds[at])) {
+            Some(step) => steps.push(step),
+            None => {
+                steps.push(StepCorners::nothing());
+                all = false;
+            }
+        }
     }
-    Some(steps)
+    all
 }
 
-/// What the steps from one to another do.
+/// Works out anew what the steps from each one on do, of the first so many, if some stand in brackets.
 #[inline(never)]
-fn corners_between(steps: &[StepCorners], first: usize, behind: usize) -> StepCorners
-    requires within { (first ≤ behind) × (behind ≤ length steps.now) }
-    ensures { (text bounds : List ℕ) → AreSteps text bounds steps.now → Reads (steps_line text bounds first behind) result }
+pub fn renew(steps: &[StepCorners], tails: &mut [Corners; MOST_BOUNDS], set: StepSet, count: usize)
+    requires { (count ≤ length steps.now) × (length steps.now ≤ 24) }
+    ensures { (text bounds : List ℕ) → AreSteps text bounds steps.now → AreTails text bounds set count tails.old →
+        AreTails text bounds set 0 tails.new }
 {
-    let mut corners = StepCorners::nothing();
-    for at in first..behind {
-        corners = corners.then(&steps[at]);
+    for step in (0..count).rev() {
+        tails[step] = steps[step].with_later(&tails[step + 1], set.has(step));
     }
-    corners
 }
 
-/// What a scramble does to the corners, and the steps before some, these, and those after them.
-#[derive(Clone, Copy)]
-pub struct Around {
-    pub scramble: Corners,
-    pub before: StepCorners,
-    pub own: StepCorners,
-    pub after: StepCorners,
-}
-
-/// Whether a line whose moves bring corners so may solve a scramble: whether opposite corners come to opposite places.
+/// Whether a line whose moves bring corners so may solve a scramble: whether all together only turn the whole cube.
 #[inline(never)]
 fn may_solve(scramble: &Corners, line: &Corners) -> bool
     ensures { (moves : Moves) (bytes : List ℕ) → Brings scramble.now.to (joined_moves moves) → IsTail bytes line.now.to →
@@ -149,21 +147,108 @@ fn may_solve(scramble: &Corners, line: &Corners) -> bool
     line_is_read();
     one_reading();
     rotated_is_tested();
-    scramble.then(line).opposites_stay()
+    scramble.then(line).may_be_rotated()
 }
 
-impl Around {
+/// What a scramble and the steps of an attempt do to the corners.
+#[derive(Drop)]
+pub struct AttemptCorners {
+    pub scramble: Corners,
+    pub steps: ArrayVec<StepCorners, MOST_STEPS>,
+    /// The steps from each one on, as they stand.
+    pub tails: [Corners; MOST_BOUNDS],
+    /// Whether each step is a line by itself. Else nothing is known of them.
+    pub are_lines: bool,
+}
+
+impl AttemptCorners {
+    /// Of steps that begin and end at these places.
+    pub fn of(scramble: &Niss, text: &[u8], bounds: &[usize]) -> AttemptCorners
+        requires room { length text.now ≤ 65536 }
+        requires few { (0 < length bounds.now) × (length bounds.now ≤ 25) }
+        requires bounds { AreBounds bounds.now }
+        ensures { IsAttempt result scramble.now text.now bounds.now }
+    {
+        let mut steps = ArrayVec::new();
+        let are_lines = are_lines(text, bounds, &mut steps);
+        let count = steps.len();
+        let mut tails = [Corners::NOWHERE; MOST_BOUNDS];
+        tails[count] = Corners::HOME;
+        renew(steps.as_slice(), &mut tails, StepSet::EMPTY, count);
+        AttemptCorners {
+            scramble: Corners::after(unniss(scramble).as_slice()),
+            steps,
+            tails,
+            are_lines,
+        }
+    }
+
+    /// Whether a line whose moves bring corners so may solve the scramble.
+    pub fn may_solve(&self, line: &Corners) -> bool
+        ensures { (scramble : Moves) (bytes : List ℕ) → Brings self.now.scramble.to (joined_moves scramble) →
+            (self.now.are_lines ≡ true → IsTail bytes line.now.to) → result ≡ false → solves_line (Ok scramble) (read_line bytes) ≡ false }
+    {
+        !self.are_lines || may_solve(&self.scramble, line)
+    }
+}
+
+/// What the steps before some do to the corners, these, and all after them.
+#[derive(Clone, Copy)]
+pub struct Around<'a> {
+    pub attempt: &'a AttemptCorners,
+    pub before: StepCorners,
+    pub own: StepCorners,
+    pub after: Corners,
+}
+
+impl<'a> Around<'a> {
+    /// No steps, before all.
+    pub fn begin(attempt: &'a AttemptCorners) -> Around<'a>
+        ensures { (scramble : Moves) (text bounds : List ℕ) → IsAttempt attempt.now scramble text bounds → IsAroundPart scramble text bounds 0 0 result }
+    {
+        Around {
+            attempt,
+            before: StepCorners::nothing(),
+            own: StepCorners::nothing(),
+            after: attempt.tails[0],
+        }
+    }
+
+    /// One step more, which has this number.
+    #[inline(never)]
+    pub fn longer(&self, step: usize) -> Around<'a>
+        requires { step < length self.now.attempt.now.steps.items }
+        ensures { (scramble : Moves) (text bounds : List ℕ) (first : ℕ) → IsAroundPart scramble text bounds first step self.now →
+            IsAroundPart scramble text bounds first (step + 1) result }
+    {
+        Around {
+            own: self.own.then(&self.attempt.steps[step]),
+            after: self.attempt.tails[step + 1],
+            ..*self
+        }
+    }
+
+    /// No steps, after these.
+    pub fn passed(&self) -> Around<'a>
+        ensures { (scramble : Moves) (text bounds : List ℕ) (first behind : ℕ) → IsAroundPart scramble text bounds first behind self.now →
+            IsAroundPart scramble text bounds behind behind result }
+    {
+        Around {
+            before: self.before.then(&self.own),
+            own: StepCorners::nothing(),
+            ..*self
+        }
+    }
+
     /// Where the moves of the line that is made so bring the corners.
     fn line(&self, how: How) -> Corners
-        ensures { (scramble : Moves) (before own after : List ℕ) → IsAround self.now scramble before own after →
-            IsTail (arranged how before own after) result.to }
+        ensures { (before own after : List ℕ) → IsAround self.now before own after → IsTail (arranged how before own after) result.to }
     {
-        let after = self.after.with_later(&Corners::HOME, false);
         match how {
             How::Alone => self.own.with_later(&Corners::HOME, false),
-            How::LeftOut => self.before.with_later(&after, false),
+            How::LeftOut => self.before.with_later(&self.after, false),
             How::InBrackets => {
-                let later = self.own.with_later(&after, true);
+                let later = self.own.with_later(&self.after, true);
                 self.before.with_later(&later, false)
             }
         }
@@ -172,75 +257,9 @@ impl Around {
     /// Whether that line may solve the scramble.
     #[inline(never)]
     pub fn may_solve(&self, how: How) -> bool
-        ensures { (scramble : Moves) (before own after : List ℕ) → IsAround self.now scramble before own after →
-            result ≡ false → solves_line (Ok scramble) (read_line (arranged how before own after)) ≡ false }
+        ensures { (scramble : Moves) (text bounds : List ℕ) (first behind : ℕ) → IsAroundPart scramble text bounds first behind self.now →
+            result ≡ false → solves_part (Ok scramble) text bounds (part how first behind) ≡ false }
     {
-        may_solve(&self.scramble, &self.line(how))
-    }
-}
-
-/// What a scramble and the steps of an attempt do to the corners. These must be lines by themselves.
-#[derive(Drop)]
-pub struct AttemptCorners {
-    pub scramble: Corners,
-    pub steps: Option<ArrayVec<StepCorners, 8>>,
-}
-
-impl AttemptCorners {
-    /// Of steps that begin and end at these places.
-    pub fn of(scramble: &Niss, text: &[u8], bounds: &[usize]) -> AttemptCorners
-        requires room { length text.now ≤ 65536 }
-        requires few { (0 < length bounds.now) × (length bounds.now ≤ 9) }
-        requires bounds { AreBounds bounds.now }
-        ensures { IsAttempt result scramble.now text.now bounds.now }
-    {
-        AttemptCorners {
-            scramble: Corners::after(unniss(scramble).as_slice()),
-            steps: corners_of_steps(text, bounds),
-        }
-    }
-
-    /// The steps from one to another among all, if each is a line by itself.
-    #[inline(never)]
-    pub fn around(&self, first: usize, behind: usize) -> Option<Around>
-        requires { first ≤ behind }
-        ensures { (scramble : Moves) (text bounds : List ℕ) → IsAttempt self.now scramble text bounds →
-            IfSome result (IsAroundPart scramble text bounds (part Alone first behind)) }
-    {
-        let Some(steps) = &self.steps else {
-            return None;
-        };
-        if behind > steps.len() {
-            return None;
-        }
-        Some(Around {
-            scramble: self.scramble,
-            before: corners_between(steps.as_slice(), 0, first),
-            own: corners_between(steps.as_slice(), first, behind),
-            after: corners_between(steps.as_slice(), behind, steps.len()),
-        })
-    }
-
-    /// Works out anew what the steps from each one on do, of the first so many, if some stand in brackets.
-    #[inline(never)]
-    pub fn renew(&self, tails: &mut [Corners; 9], set: StepSet, count: usize)
-        requires { IfSome self.now.steps (λ steps. count ≤ length steps.items) }
-        ensures { (text bounds : List ℕ) → IfSome self.now.steps (λ steps. AreSteps text bounds steps.items →
-            AreTails text bounds set count tails.old → AreTails text bounds set 0 tails.new) }
-    {
-        let Some(steps) = &self.steps else {
-            return;
-        };
-        for step in (0..count).rev() {
-            tails[step] = steps[step].with_later(&tails[step + 1], set.has(step));
-        }
-    }
-
-    /// Whether a line of all steps, whose moves bring corners so, may solve the scramble.
-    pub fn may_solve(&self, line: &Corners) -> bool
-        ensures { (scramble : Moves) (bytes : List ℕ) → Brings self.now.scramble.to (joined_moves scramble) →
-            IfSome self.now.steps (λ steps. IsTail bytes line.now.to) → result ≡ false → solves_line (Ok scramble) (read_line bytes) ≡ false }
-    {
-        self.steps.is_none() || may_solve(&self.scramble, line)
+        self.attempt.may_solve(&self.line(how))
     }
 }

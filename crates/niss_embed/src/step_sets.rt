@@ -2,16 +2,18 @@
 ghost use Rattle.std.specs.Prelude.{◌≡◌, ◌<◌, ◌≤◌, ◌+◌, ◌-◌, ◌^◌, ◌++◌, ℕ, List, [], Ok, length, map};
 ghost use Rattle.niss_moves.specs.Reader.{IsFed};
 ghost use Rattle.niss_embed.specs.Corners.{IsAttempt};
-ghost use Rattle.niss_embed.specs.Parts.{IsLeast, has, first_in, last_in, in_brackets_if, line_with, solves_with, read_byte};
+ghost use Rattle.niss_embed.specs.Parts.{IsLeast, has, number_of_steps, first_in, last_in, in_brackets_if, line_with, solves_with, read_byte};
 ghost use Rattle.niss_embed.specs.declared.parts.Brackets.TheVariants.{Kept};
 
-use crate::corners::Corners;
 use crate::parts::{Brackets, feed, solves_so};
-use crate::step_corners::AttemptCorners;
+use crate::step_corners::{AttemptCorners, renew};
 use crate::stretch::stretch;
 use niss_moves::{LineReader, Niss};
 
-/// Some of the first eight steps.
+/// Of how many steps sets are tried: each is in brackets or not.
+const MOST_IN_SETS: usize = 8;
+
+/// Some of these steps.
 #[derive(Clone, Copy)]
 pub struct StepSet {
     /// A bit for each: the lowest is that of the first step.
@@ -20,7 +22,7 @@ pub struct StepSet {
 
 impl StepSet {
     /// No step.
-    const EMPTY: StepSet = StepSet { number: 0 };
+    pub const EMPTY: StepSet = StepSet { number: 0 };
 
     /// Whether a step is one of them.
     pub fn has(self, step: usize) -> bool
@@ -68,7 +70,7 @@ pub fn feed_step(reader: &mut LineReader, step: &[u8], in_brackets: bool)
 /// Has a reader read all steps, of which some stand in brackets.
 fn feed_steps(reader: &mut LineReader, text: &[u8], bounds: &[usize], set: StepSet)
     requires new { (reader.old.fed ≡ 0) × IsFed reader.old [] }
-    requires some { (0 < length bounds.now) × (length bounds.now ≤ 9) }
+    requires some { (0 < length bounds.now) × (length bounds.now ≤ 25) }
     requires room { length text.now ≤ 65536 }
     ensures { IsFed reader.new (line_with text.now bounds.now set) }
 {
@@ -80,7 +82,7 @@ fn feed_steps(reader: &mut LineReader, text: &[u8], bounds: &[usize], set: StepS
 
 /// Whether all steps solve a scramble if some of them stand in brackets.
 fn solves_with(scramble: &Niss, text: &[u8], bounds: &[usize], set: StepSet) -> bool
-    requires some { (0 < length bounds.now) × (length bounds.now ≤ 9) }
+    requires some { (0 < length bounds.now) × (length bounds.now ≤ 25) }
     requires room { length text.now ≤ 65536 }
     ensures { result ≡ solves_with (Ok scramble.now) text.now bounds.now set }
 {
@@ -106,18 +108,16 @@ pub fn least_set(
     bounds: &[usize],
     corners: &AttemptCorners,
 ) -> Option<StepSet>
-    requires some { (0 < length bounds.now) × (length bounds.now ≤ 9) }
+    requires some { (0 < length bounds.now) × (length bounds.now ≤ 25) }
     requires room { length text.now ≤ 65536 }
     requires corners { IsAttempt corners.now scramble.now text.now bounds.now }
-    ensures { IsLeast (length bounds.now - 1) (solves_with (Ok scramble.now) text.now bounds.now) result }
+    ensures { IsLeast (number_of_steps bounds.now) (solves_with (Ok scramble.now) text.now bounds.now) result }
 {
-    let steps = bounds.len() - 1;
-    let mut tails = [Corners::NOWHERE; 9];
-    tails[steps] = Corners::HOME;
-    corners.renew(&mut tails, StepSet::EMPTY, steps);
-    for number in 1..count_of_sets(steps) {
+    let steps = corners.steps.as_slice();
+    let mut tails = corners.tails;
+    for number in 1..count_of_sets(steps.len().min(MOST_IN_SETS)) {
         let set = StepSet { number };
-        corners.renew(&mut tails, set, set.first() + 1);
+        renew(steps, &mut tails, set, set.first() + 1);
         if corners.may_solve(&tails[0]) && solves_with(scramble, text, bounds, set) {
             return Some(set);
         }

@@ -1,30 +1,10 @@
-use Rattle.std.proofs.Common.{◌≡◌, ◌∙◌, ◌+◌, ◌-◌, ◌<◌, ℕ, List, length, false, Ok, replicate, set, sym, subst, arith}
-use Rattle.std.specs.Prelude.{IfSome}
-use Rattle.std.proofs.lemmas.List.{length-replicate}
-use Rattle.niss_embed.specs.declared.corners.Corners.{Corners}
-use Rattle.niss_embed.specs.Corners.{AreSteps, AreTails, IsTail, home}
-use Rattle.niss_embed.specs.Parts.{line_with, solves_with}
-use Rattle.niss_embed.proofs.TailLemmas.{tails_begin}
-use Rattle.niss_embed.proofs.SetLemmas.{of, tails_kept, whole_tail, none_below_more, if_some}
+use Rattle.std.proofs.Common.{◌≡◌, ◌∙◌, ◌+◌, ◌-◌, ◌<◌, ℕ, List, length, true, false, Ok, sym, subst, arith}
+use Rattle.niss_embed.specs.declared.step_corners.StepCorners.{StepCorners}
+use Rattle.niss_embed.specs.Corners.{AreSteps, AreTails}
+use Rattle.niss_embed.specs.Parts.{solves_with, line_with}
+use Rattle.niss_embed.proofs.SetLemmas.{of, tails_kept, whole_tail, none_below_more}
 use Rattle.niss_embed.proofs.step_sets.least_set.Goals as goal
 use Rattle.niss_embed.proofs.step_sets.least_set.Goals.{else-may_solve-via-then-may_solve+else-solves_with, else-may_solve-via-else-may_solve}
-
-pub loop-number-init : goal.loop-number-init
-loop-number-init c =
-    let text : List ℕ = c.args.text.now in
-    let bounds : List ℕ = c.args.bounds.now in
-    let one : Corners = record { to = replicate 8 0 } in
-    let nowhere : List Corners = replicate 9 one in
-    let nine : length nowhere ≡ 9 = length-replicate 9 one in
-    let begun : List Corners = set nowhere (length bounds - 1) (record { to = home }) in
-    record {
-      tails = if_some (λ steps. AreSteps text bounds steps.items) (λ steps. AreSteps text bounds steps.items)
-          (λ steps. AreSteps text bounds steps.items → AreTails text bounds (of 0) (length bounds - 1) begun → AreTails text bounds (of 0) 0 c.renew.new.tails)
-          (λ steps. AreTails text bounds (of 0) 0 c.renew.new.tails) c.args.corners.now.steps
-          (λ steps are again renewed. renewed are (tails_begin text bounds (of 0) nowhere (omega (arith, c.requires.some.0, c.requires.some.1, nine)))) c.requires.corners.are_steps c.requires.corners.are_steps
-          (c.renew.ensures text bounds);
-      none = λ other some less. absurd (omega (arith, some, less));
-    }
 
 pub loop-number-preserved : goal.loop-number-preserved
 loop-number-preserved c =
@@ -33,24 +13,18 @@ loop-number-preserved c =
     let n : ℕ = c.loop-number.number in
     let few : n < 256 = omega (arith, c.loop-number-test.true, c.count_of_sets-number-end.ensures.few) in
     let some : 0 < n = omega (arith, c.loop-number.auto.number) in
-    let tails : IfSome c.args.corners.now.steps (λ steps. AreTails text bounds (of n) 0 c.renew-in-loop-number.new.tails) =
-    if_some (λ steps. AreSteps text bounds steps.items) (λ steps. AreTails text bounds (of (n - 1)) 0 c.loop-number.tails)
-    (λ steps. AreSteps text bounds steps.items → AreTails text bounds (of n) (c.first.result + 1) c.loop-number.tails →
-    AreTails text bounds (of n) 0 c.renew-in-loop-number.new.tails)
-    (λ steps. AreTails text bounds (of n) 0 c.renew-in-loop-number.new.tails) c.args.corners.now.steps
-    (λ steps are before renewed. renewed are
-    (subst (λ (k : ℕ). AreTails text bounds (of n) (k + 1) c.loop-number.tails) (sym c.first.ensures.is) (tails_kept text bounds c.loop-number.tails n some few c.requires.some.1 before)))
-    c.requires.corners.are_steps c.loop-number.invariant.tails (c.renew-in-loop-number.ensures text bounds) in
-    let whole = if_some (λ steps. AreTails text bounds (of n) 0 c.renew-in-loop-number.new.tails) (λ steps. AreTails text bounds (of n) 0 c.renew-in-loop-number.new.tails)
-    (λ steps. AreTails text bounds (of n) 0 c.renew-in-loop-number.new.tails)
-    (λ steps. IsTail (line_with text bounds (of n)) _) c.args.corners.now.steps
-    (λ steps are again more. whole_tail text bounds (of n) c.renew-in-loop-number.new.tails _ c.requires.some.0 are) tails tails tails in
+    let tails : c.args.corners.now.are_lines ≡ true → AreTails text bounds (of n) 0 c.renew.new.tails =
+    λ known. c.renew.ensures text bounds
+    (subst (λ (steps : List StepCorners). AreSteps text bounds steps) (sym c.as_slice-steps.ensures.value) (c.requires.corners.are_steps known))
+    (subst (λ (k : ℕ). AreTails text bounds (of n) (k + 1) c.loop-number.tails) (sym c.first.ensures.is)
+    (tails_kept text bounds c.loop-number.tails n some few c.requires.some.1 (c.loop-number.invariant.tails known))) in
     let not : solves_with (Ok c.args.scramble.now) text bounds (of n) ≡ false = elim c.else-may_solve.branch [
       | else-may_solve-via-then-may_solve+else-solves_with w ↦ sym w.solves_with.ensures ∙ w.if-solves_with.false
-      | else-may_solve-via-else-may_solve w ↦ c.may_solve.ensures c.args.scramble.now (line_with text bounds (of n)) c.requires.corners.scrambles whole w.if-may_solve.false
+      | else-may_solve-via-else-may_solve w ↦ c.may_solve.ensures c.args.scramble.now (line_with text bounds (of n)) c.requires.corners.scrambles
+          (λ known. whole_tail text bounds (of n) c.renew.new.tails _ c.requires.some.0 (tails known)) w.if-may_solve.false
     ] in
     let same : n ≡ n + 1 - 1 = omega arith in
     record {
-      tails = subst (λ (k : ℕ). IfSome c.args.corners.now.steps (λ steps. AreTails text bounds (of k) 0 c.renew-in-loop-number.new.tails)) same tails;
+      tails = λ known. subst (λ (k : ℕ). AreTails text bounds (of k) 0 c.renew.new.tails) same (tails known);
       none = none_below_more (solves_with (Ok c.args.scramble.now) text bounds) n not c.loop-number.invariant.none;
     }

@@ -1,5 +1,4 @@
-use Rattle.std.proofs.Common.{◌-◌, Ok}
-use Rattle.std.specs.Prelude.{IfSome}
+use Rattle.std.proofs.Common.{◌≡◌, ◌-◌, true, Ok}
 use Rattle.niss_embed.specs.Corners.{AreTails}
 use Rattle.niss_embed.specs.Parts.{solves_with}
 use Rattle.niss_embed.proofs.SetLemmas.{of, NoneBelow}
@@ -7,6 +6,6 @@ use Rattle.niss_embed.proofs.step_sets.least_set.Given as goal
 
 abbrev pub invariant-loop-number : goal.invariant-loop-number
 invariant-loop-number l = record {
-  tails : IfSome l.corners.steps (λ steps. AreTails l.text l.bounds (of (l.number - 1)) 0 l.tails);
+  tails : l.corners.are_lines ≡ true → AreTails l.text l.bounds (of (l.number - 1)) 0 l.tails;
   none : NoneBelow (solves_with (Ok l.scramble) l.text l.bounds) l.number;
 }

@@ -1,6 +1,6 @@
 use Rattle.std.proofs.Common.{◌≡◌, sym, ap, ◌∙◌, length, arith}
 use Rattle.niss_embed.proofs.PartLemmas.{bounds_to, bounds_passed, bounds_added, bounds_end, bounds_few, are_bounds}
-use Rattle.niss_embed.proofs.parts.bounds_of.Goals as goal
+use Rattle.niss_embed.proofs.step_bounds.bounds_of.Goals as goal
 
 pub loop-at-preserved-then-not-is_end : goal.loop-at-preserved-then-not-is_end
 loop-at-preserved-then-not-is_end c =

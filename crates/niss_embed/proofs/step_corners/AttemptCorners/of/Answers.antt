@@ -1,0 +1,26 @@
+use Rattle.std.proofs.Common.{◌≡◌, ◌∙◌, ◌-◌, ℕ, List, length, replicate, set, sym, subst, arith}
+use Rattle.std.proofs.lemmas.List.{length-replicate}
+use Rattle.niss_embed.specs.declared.corners.Corners.{Corners}
+use Rattle.niss_embed.specs.declared.step_corners.StepCorners.{StepCorners}
+use Rattle.niss_embed.specs.Corners.{Brings, AreSteps, AreTails, home, no_step}
+use Rattle.niss_embed.proofs.TailLemmas.{tails_begin}
+use Rattle.niss_embed.proofs.step_corners.AttemptCorners.of.Goals as goal
+
+pub returns : goal.returns
+returns c =
+    let text : List ℕ = c.args.text.now in
+    let bounds : List ℕ = c.args.bounds.now in
+    let one : Corners = record { to = replicate 8 0 } in
+    let nowhere : List Corners = replicate 25 one in
+    let long : length nowhere ≡ 25 = length-replicate 25 one in
+    let number = c.are_lines-are_lines.ensures.number in
+    let count : length bounds - 1 ≡ c.len-count.result = omega (arith, number, c.len-count.ensures.value) in
+    record {
+      number = number;
+      scrambles = subst (Brings c.after.result.to) (c.as_slice-2.ensures.value ∙ c.unniss.ensures.moves) c.after.ensures;
+      are_steps = c.are_lines-are_lines.ensures.are;
+      are_tails = λ known. c.renew.ensures text bounds
+          (subst (λ (steps : List StepCorners). AreSteps text bounds steps) (sym c.as_slice.ensures.value) (c.are_lines-are_lines.ensures.are known))
+          (subst (λ (k : ℕ). AreTails text bounds no_step k (set nowhere k (record { to = home }))) count
+          (tails_begin text bounds no_step nowhere (omega (arith, c.requires.few.1, long))));
+    }

@@ -1,0 +1,47 @@
+//! The places where the steps of an attempt begin and end.
+ghost use Rattle.std.specs.Prelude.{◌≡◌, ◌<◌, ◌≤◌, ◌++◌, [], ◌∷◌, length};
+ghost use Rattle.niss_embed.specs.Corners.{AreBounds};
+ghost use Rattle.niss_embed.specs.Parts.{bounds_of, is_end};
+
+use arrayvec::ArrayVec;
+
+/// How many steps of an attempt are looked at.
+pub const MOST_STEPS: usize = 24;
+
+/// Where the first of them begins, and where each ends.
+pub const MOST_BOUNDS: usize = 25;
+
+/// Whether a step ends before a place of a text.
+fn is_end(text: &[u8], place: usize) -> bool
+    requires { (0 < place) × (place ≤ length text.now) }
+    ensures { result ≡ is_end text.now place }
+{
+    text[place - 1] == b'\n' || place == text.len()
+}
+
+/// The place where the first step begins, and those where the first ones end.
+pub fn bounds_of(text: &[u8]) -> ArrayVec<usize, MOST_BOUNDS>
+    ensures are { result.items ≡ bounds_of text.now }
+    ensures few { (0 < length result.items) × (length result.items ≤ 25) }
+    ensures bounds { AreBounds result.items }
+{
+    let mut bounds = ArrayVec::new();
+    bounds.push(0);
+    for at in 0..text.len() {
+        if !is_end(text, at + 1) {
+            continue;
+        }
+        push_bound(&mut bounds, at + 1);
+    }
+    bounds
+}
+
+/// Adds a place, if there is room.
+fn push_bound(bounds: &mut ArrayVec<usize, MOST_BOUNDS>, place: usize)
+    ensures room { length bounds.old.items < 25 → bounds.new.items ≡ bounds.old.items ++ place ∷ [] }
+    ensures full { 25 ≤ length bounds.old.items → bounds.new.items ≡ bounds.old.items }
+{
+    if !bounds.is_full() {
+        bounds.push(place);
+    }
+}
