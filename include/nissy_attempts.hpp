@@ -54,7 +54,7 @@ struct attempt {
     std::optional<plain> solution;             // the block whose label says that it is the solution, else the steps in one; none if it can't be seen
     std::vector<attempt_candidate> candidates; // the blocks after a blank line
     std::size_t before = 0;                    // how many lines of prose stand before the scramble
-    std::optional<attempt_doubt> doubt;        // of the reading, if the solution doesn't solve the scramble
+    std::optional<attempt_doubt> doubt;        // of the reading, if nothing solves, or it is step_or_scramble
 };
 
 namespace detail {

@@ -22,7 +22,7 @@ struct attempt_check {
     std::optional<nissy::fault> fault;  // of its scramble, or else of its solution, as part() says
     std::optional<text_place> place;    // where the fault stands in the text
     std::vector<form_in_text> forms;    // where its solution has forms that the WCA's notation hasn't; none beside a fault
-    std::optional<attempt_doubt> doubt; // that it is read as it was meant; none if its solution solves, or has a fault
+    std::optional<attempt_doubt> doubt; // that it is read as it was meant; none if it has a fault, and mostly if it is solved
 };
 
 // The answer to one of many pairs of a scramble and a solution: a verdict, or what is wrong with one of them.

@@ -66,7 +66,7 @@ typedef struct nissy_text_line {
     uint8_t labelled; /* its label, from label_begin to label_end, says up to a colon that the solution follows */
     uint8_t inverse;  /* it is said of this step that it is on the inverse, and it has no brackets */
     uint8_t doubt;    /* one of nissy_doubt: of a line of the scramble or of the solution; of any step or note if it can't be seen which of them are
-                       * the solution. It counts if no solution solves the scramble */
+                       * the solution. It counts if no solution solves the scramble, NISSY_STEP_OR_SCRAMBLE always */
     uint64_t attempt; /* which attempt, from 0 */
     uint64_t group;   /* of a step or a note: 0 directly under the scramble, and then the blocks after blank lines */
     uint64_t begin;   /* of the line */

@@ -82,7 +82,8 @@ class Attempt(NamedTuple):
     before: int
     """How many lines of prose stand before the scramble."""
     doubt: Optional[AttemptDoubt] = None
-    """What makes one doubt the reading if the solution doesn't solve the scramble, or None."""
+    """What makes one doubt the reading if the solution doesn't solve the scramble, "step or scramble" also if it does,
+    or None."""
 
 
 NOTHING = PlainLine("", (), ())

@@ -22,7 +22,7 @@ export type AttemptDoubt = { reason: Exclude<typeof REASONS[number], "">; place:
  * others, such as `2.`, or empty; so many lines of prose stand `before` the first one; `steps` are the lines of the
  * solution, each of which a comment or a label may describe, and `candidates` the blocks after a blank line.
  * `solution` is the block whose label says so, else the steps in one, and null if it can't be told, or if there is
- * none. `doubt` counts if the solution doesn't solve the scramble, and is null if there is none. */
+ * none. `doubt` counts if nothing solves, "step or scramble" always, and is null if there is none. */
 export type Attempt = {
   name: string;
   scramble: PlainLine;
