@@ -3,7 +3,7 @@ import { Stopped } from "../../module/shared/faults.js";
 import { bestRow, type RowActs } from "./best-row.js";
 import { thrownError, present } from "../shared/certain.js";
 import { ShownCounts } from "./counts.js";
-import { announce, announceLater, counted, part, setBusy, tell } from "../shared/element.js";
+import { announce, announceLater, counted, grouped, part, setBusy, tell } from "../shared/element.js";
 import { Filters, casesOfBest, filtersOfBest, offerCases, offerMoves } from "./filters.js";
 import { KnownSearches, findAll, joiningRows, type Progress, type Question, type Row } from "./finder.js";
 import { FURTHEST, FurtherSearch, type Further } from "./further-search.js";
@@ -310,7 +310,7 @@ export class BestContinuations {
     this.#filters.show();
     if (part("best-options").open) offerCases("best-cases", all.map(casesOfBest));
     const ofWhat = this.#isOfReductions ? "Trigger from" : "Case before DR";
-    const some = isWhole && count < tried ? `, of the best ${count.toLocaleString("en")}` : "";
+    const some = isWhole && count < tried ? `, of the best ${grouped(count)}` : "";
     part("best-cases-name").textContent = ofWhat + some;
     const shown = rows.slice(0, this.#shown);
     this.#showRows(shown);
@@ -334,9 +334,9 @@ export class BestContinuations {
 
   /** What is said of rows that are shown, of which the filters leave some, and of longer ones, which may be offered. */
   #note({ count, tried }: Further, left: number, isOffered: boolean) {
-    const some = count < tried ? `the best ${count.toLocaleString("en")} of ` : "";
+    const some = count < tried ? `the best ${grouped(count)} of ` : "";
     const all = some + counted(tried, "row");
-    const words = left === count ? all : `${left.toLocaleString("en")} of ${all}`;
+    const words = left === count ? all : `${grouped(left)} of ${all}`;
     const waiting = this.#waiting();
     const longer = waiting ? `Up to ${waiting.slack} longer: ${counted(waiting.tried, "row")}` : "";
     const found = longer && `${longer}${isOffered ? "" : ", none better"}.`;

@@ -9,13 +9,7 @@ export type Next = {
 };
 /** `twins`: their last turns; `passed`: of a reduction the case before each move; `rank`: what puts rows in order. */
 export type Row = {
-  total: number;
-  part: Part;
-  state: string;
-  twins: string[];
-  passed: string[];
-  next: Next | null;
-  key: string;
+  total: number; part: Part; state: string; twins: string[]; passed: string[]; next: Next | null; key: string;
   rank: number;
 };
 /** If it `isWhole` more than the first rows are asked for. */

@@ -12,11 +12,7 @@ export type Further = Found & { slack: number };
 /** `sizes`: how many orientations each axis has, once they are counted; `isHeld`: it waits until it is asked for;
  * `found`: of the axes that were looked through; `left`: those that are still to be looked at. */
 type Search = {
-  question: Question;
-  sizes: Size[];
-  isHeld: boolean;
-  found: Map<number, FoundOnAxis>;
-  left: number[];
+  question: Question; sizes: Size[]; isHeld: boolean; found: Map<number, FoundOnAxis>; left: number[];
   running: Set<number>;
 };
 

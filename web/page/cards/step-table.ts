@@ -1,5 +1,5 @@
 // The table of the steps that may follow: of each what solvers choose it by, and its counts on each side.
-import { counted, element, part, tell, withData } from "../shared/element.js";
+import { counted, element, grouped, part, tell, withData } from "../shared/element.js";
 import {
   SIDES, isReduced, nameOfSide, stateOf, statesOf, titleOf, type OfferedStep, type Part, type Side, type Step,
 } from "../shared/offered-steps.js";
@@ -13,7 +13,7 @@ export type Cube = { facts: Facts; made: number; reached: string[] };
 /** The least length, what that makes in all after moves, how many solutions make that, and a word that is only said. */
 function wordsOfRow({ length, total, solutions, best }: Counted, made: number): string[] {
   if (length === null) return ["–", "", "none within 20 moves", ""];
-  const [some, all] = [best, solutions].map((each) => each.toLocaleString("en"));
+  const [some, all] = [best, solutions].map(grouped);
   const words = best < solutions ? [`${some} of ${all}`, " solutions"] : [counted(solutions, "solution"), ""];
   return [counted(length, "move"), made > 0 ? `${total} in all, ` : "", ...words];
 }
