@@ -52,8 +52,9 @@ function bestOfAxis(
   const request = bestRequest(scramble, { soFar: bracketed(parts), slack, most });
   let tried = 0;
   const reply = engine.answer({ ...request, axes: [axis] }, ({ done }) => {
+    // each message takes the page's time
+    if (done > tried) tell(done);
     tried = done;
-    tell(tried);
   });
   const rows = bestIn(reply as BestReply, request);
   if (reached.length === 0) return { rows: rows.map(rowInWords), tried };
