@@ -29,15 +29,16 @@ const SOON = 50;
  * the page. They are waited for a moment, since what is shown by itself is laid out and painted by itself. */
 export async function cubeWithOffers(
   calls: Calls, typed: { text: string; parts: Part[] },
-): Promise<{ cube: Examined | Unexamined; offers: Promise<Offer[]> }> {
+): Promise<{ cube: Examined | Unexamined; offers: Promise<Offer[]>; isWhole: boolean }> {
   let offers: Promise<Offer[]> = Promise.resolve([]);
   const cube = new Promise<Examined | Unexamined>((settle, refuse) => {
     offers = calls.ask("examine", typed, settle);
     offers.catch(refuse);
   });
   // what is wrong is said where it is waited for
-  await Promise.race([offers.catch(() => {}), new Promise((late) => setTimeout(late, SOON))]);
-  return { cube: await cube, offers };
+  const whole = offers.then(() => true, () => true);
+  const isWhole = await Promise.race([whole, new Promise<false>((late) => setTimeout(late, SOON, false))]);
+  return { cube: await cube, offers, isWhole };
 }
 
 const wordsOfAnew = (state: string) => `Going on from here, this ${state} given up`;
