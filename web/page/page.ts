@@ -235,7 +235,7 @@ export class Page {
     const { cube, offers, isWhole } = await asked;
     if (turn !== this.#turn) return;
     // looked at before anything changes: for each look after that the page would be laid out by itself
-    const isAtTop = isWhole && areBeside() && scrollY === 0;
+    const isAtTop = areBeside() && scrollY === 0;
     const fault = "unread" in cube ? new NissyFault(cube.unread.text, cube.unread) : null;
     this.#scramble.judge(fault, "read" in cube ? cube.read : null);
     showBeginning(this.#state);
@@ -245,7 +245,7 @@ export class Page {
     if (turn !== this.#turn) return;
     this.#showOffers(shown, steps);
     this.#readiness.begin(shown.reached, part("choices").hidden);
-    await this.#showAnswered(turn, shown, isAtTop);
+    await this.#showAnswered(turn, shown, isWhole && isAtTop);
   }
 
   #showCube({ read: { line: scramble, written }, walk, views, whole }: Examined, isAtTop: boolean): CubeOfLine {
