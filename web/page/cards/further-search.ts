@@ -23,9 +23,7 @@ const IDLE_FOR = 600;
 
 /** `turned`: once it goes on, or no more, or waits to be asked; `looked`: how many axes are looked through. */
 type FurtherActs = {
-  turned: () => void;
-  looked: (done: number, all: number) => void;
-  found: (progress: Further) => void;
+  turned: () => void; looked: (done: number, all: number) => void; found: (progress: Further) => void;
   ended: (fault: Error | null) => void;
 };
 

@@ -43,10 +43,7 @@ function nameOfGroup({ length, total, passed = [] }: Entry) {
 
 const signsOf = ({ moves, passed = [] }: Entry) => Math.ceil(moves.length + signsOfCases(passed));
 
-type ListActs = StarActs & {
-  take: (parts: Part[], key: string) => void;
-  change: (change: Partial<List> | null) => void;
-};
+type ListActs = StarActs & { take: (parts: Part[], key: string) => void; change: (to: Partial<List> | null) => void };
 
 export class SolutionList {
   #name = "";
