@@ -205,7 +205,11 @@ export class Page {
     this.#cube = null;
     this.#readiness.stop();
     this.#calls.drop();
-    const asked = cubeWithOffers(this.#calls, { text: scramble, parts });
+    const asked = cubeWithOffers(this.#calls, { text: scramble, parts }, (cube) => {
+      if (turn !== this.#turn || "unread" in cube || isBare(this.#state)) return;
+      // the best are looked for while the steps are counted and shown
+      this.#best.foresee({ scramble: cube.read.line, parts, reached: lastOf(cube.walk.reached), slack: 0 });
+    });
     // what is wrong is said where it is waited for
     asked.catch(() => {});
     document.title = titleOfPage(this.#state);

@@ -26,13 +26,14 @@ export const caseOfStep = ({ badEdges, case: cases }: Facts, { axis, needs }: Of
 const SOON = 50;
 
 /** The cube, and the steps that may follow, each with its counts on both sides: by one question, so that none waits for
- * the page. They are waited for a moment, since what is shown by itself is laid out and painted by itself. */
+ * the page. They are waited for a moment, since what is shown by itself is laid out and painted by itself.
+ * @param told the cube as soon as it is known */
 export async function cubeWithOffers(
-  calls: Calls, typed: { text: string; parts: Part[] },
+  calls: Calls, typed: { text: string; parts: Part[] }, told: (cube: Examined | Unexamined) => void,
 ): Promise<{ cube: Examined | Unexamined; offers: Promise<Offer[]>; isWhole: boolean }> {
   let offers: Promise<Offer[]> = Promise.resolve([]);
   const cube = new Promise<Examined | Unexamined>((settle, refuse) => {
-    offers = calls.ask("examine", typed, settle);
+    offers = calls.ask("examine", typed, (first) => [settle, told].forEach((take) => take(first)));
     offers.catch(refuse);
   });
   // what is wrong is said where it is waited for
