@@ -22,18 +22,19 @@ async function unpacked(name: string) {
   return new Uint8Array(await new Response(readable).arrayBuffer());
 }
 
-async function start([module, script]: [SentModule, Uint8Array]) {
-  const newWorker = workersOf(new TextDecoder().decode(script));
+async function start([module, newWorker]: [SentModule, () => Promise<Worker>]) {
   const page = new Page(() => new Calls(newWorker, module), await Reader.start(module));
   addEventListener("popstate", ({ state }) => page.returnTo(state));
   addEventListener("hashchange", () => page.begin(location.hash));
   page.begin(location.hash);
 }
 
+// the first worker starts while the module is compiled
+const workers = unpacked("worker-script").then((script) => workersOf(new TextDecoder().decode(script)));
 part("unstarted").remove();
 offerThemes();
 offerCover();
 placeHelp();
 // if it can't be compiled each worker says why, once it is asked
 const module = unpacked("engine-module").then((bytes) => compiled(bytes).catch(() => bytes));
-Promise.all([module, unpacked("worker-script")]).then(start);
+Promise.all([module, workers]).then(start);

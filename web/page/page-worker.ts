@@ -52,17 +52,25 @@ function bestOfAxis(
   const request = bestRequest(scramble, { soFar: bracketed(parts), slack, most });
   let tried = 0;
   const reply = engine.answer({ ...request, axes: [axis] }, ({ done }) => {
+    // each message takes the page's time
+    if (done > tried) tell(done);
     tried = done;
-    tell(tried);
   });
   const rows = bestIn(reply as BestReply, request);
   if (reached.length === 0) return { rows: rows.map(rowInWords), tried };
   return { rows: reductionsInWords(nissy, positionAfter(nissy, scramble, parts).lines.normal, rows), tried };
 }
 
-const build = (nissy: Nissy, { step }: { step: Step }) => void nissy.count(step, "");
+/** Builds the tables of a step, and looks at any scramble before it, since a browser compiles well only what has run:
+ * so the first answer is sooner. */
+function build(nissy: Nissy, { step }: { step: Step }) {
+  const { needs } = stepNamed(step);
+  const parts = needs === null ? [] : [partOf(nissy.solve(needs, ANY_SCRAMBLE, { sides: "normal", most: 1 })[0])];
+  examine(nissy, { text: ANY_SCRAMBLE, parts }, () => {});
+  rowsOfList(nissy, { list: { step, side: "normal", slack: 0, isAll: false }, scramble: ANY_SCRAMBLE, parts });
+}
 
-/** Finds the best of any scramble, since a browser compiles well only what has run: so the first answer is sooner. */
+/** Finds the best of any scramble, for the same. */
 function warmUp(nissy: Nissy, { axis }: { axis: number }, _: unknown, engine: Engine) {
   const question = { scramble: ANY_SCRAMBLE, parts: [], reached: [], slack: 0 };
   bestOfAxis(nissy, { axis, question, most: 12 }, () => {}, engine);

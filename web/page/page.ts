@@ -163,11 +163,11 @@ export class Page {
     if (isOther) tell(part("alert"), "");
     // the engine is asked first, and answers meanwhile
     if (isOther) this.#refresh();
+    else this.#showList();
     this.#desk.keep(this.#state, { isStep, ...ofScramble });
     if (isOther) return;
     this.#line.turnTo(this.#state.side);
     this.#table.mark(this.#state.list);
-    this.#showList();
     if ("kept" in change) this.#showKept();
     else this.#line.markKept(this.#kept.has(this.#state.parts, this.#next));
   }
@@ -205,7 +205,11 @@ export class Page {
     this.#cube = null;
     this.#readiness.stop();
     this.#calls.drop();
-    const asked = cubeWithOffers(this.#calls, { text: scramble, parts });
+    const asked = cubeWithOffers(this.#calls, { text: scramble, parts }, (cube) => {
+      if (turn !== this.#turn || "unread" in cube || isBare(this.#state)) return;
+      // the best are looked for while the steps are counted and shown
+      this.#best.foresee({ scramble: cube.read.line, parts, reached: lastOf(cube.walk.reached), slack: 0 });
+    });
     // what is wrong is said where it is waited for
     asked.catch(() => {});
     document.title = titleOfPage(this.#state);
@@ -232,21 +236,23 @@ export class Page {
 
   /** Shows the engine's answers as they come. @param asked the first of them */
   async #answer(turn: number, asked: ReturnType<typeof cubeWithOffers>) {
-    const { cube, offers } = await asked;
+    const { cube, offers, isWhole } = await asked;
     if (turn !== this.#turn) return;
+    // looked at before anything changes: for each look after that the page would be laid out by itself
+    const isAtTop = areBeside() && scrollY === 0;
     const fault = "unread" in cube ? new NissyFault(cube.unread.text, cube.unread) : null;
     this.#scramble.judge(fault, "read" in cube ? cube.read : null);
     showBeginning(this.#state);
     if ("unread" in cube) return setUsable(false);
-    const shown = this.#showCube(cube);
+    const shown = this.#showCube(cube, isAtTop);
     const steps = await offers;
     if (turn !== this.#turn) return;
     this.#showOffers(shown, steps);
     this.#readiness.begin(shown.reached, part("choices").hidden);
-    await this.#showAnswered(turn, shown);
+    await this.#showAnswered(turn, shown, isWhole && isAtTop);
   }
 
-  #showCube({ read: { line: scramble, written }, walk, views, whole }: Examined): CubeOfLine {
+  #showCube({ read: { line: scramble, written }, walk, views, whole }: Examined, isAtTop: boolean): CubeOfLine {
     const { parts } = this.#state;
     const reached = lastOf(walk.reached);
     const cube = { scramble, written, parts, reached, facts: views.normal.facts, made: lastOf(walk.totals) };
@@ -256,12 +262,14 @@ export class Page {
     setUsable(true);
     // no solved cube is left, dimmed, beside the first scramble that can't be read
     for (const name of ["cube", "choices"]) part(name).hidden = isBare(this.#state);
-    // in one column a line that is seen stays, also where the page becomes too low for the browser to keep it there
-    const isSeen = !areBeside() && part("line").getBoundingClientRect().top < innerHeight;
-    withoutMoving(part(isSeen ? "line" : "scramble-card"), () => {
+    const begin = () => {
       this.#best.expect(reached, isBare(this.#state));
       this.#table.begin(cube);
-    });
+    };
+    // in one column a line that is seen stays, also where the page becomes too low for the browser to keep it there
+    const isSeen = () => !areBeside() && part("line").getBoundingClientRect().top < innerHeight;
+    if (isAtTop) begin();
+    else withoutMoving(part(isSeen() ? "line" : "scramble-card"), begin);
     this.#checkList(reached);
     this.#showKept();
     return cube;
@@ -287,7 +295,7 @@ export class Page {
     this.#best.reset(part("choices").hidden ? null : { scramble, parts, reached, longer });
   }
 
-  async #showAnswered(turn: number, { reached }: CubeOfLine) {
+  async #showAnswered(turn: number, { reached }: CubeOfLine, isAtTop: boolean) {
     // a list that is looked for takes the focus itself, and says what it has
     const isOfList = this.#nextFocus.waitsFor("list");
     const shown = this.#showList();
@@ -296,7 +304,7 @@ export class Page {
     part("choices").inert = false;
     if (isOfList) return;
     const isFinished = isReduced(reached) && this.#state.parts.length > 0;
-    if (this.#nextFocus.take("table")) showStart(isFinished, this.#table);
+    if (this.#nextFocus.take("table")) showStart(isFinished, this.#table, isAtTop);
     else if (!isBare(this.#state)) announceLater(this.#table.summary());
     this.#table.giveBack();
     this.#goBack();

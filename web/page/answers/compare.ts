@@ -12,9 +12,7 @@ import type { Nissy } from "../../module/nissy.js";
 export type Counts = Map<number, number>;
 /** `steps`: those that follow, a reduction as soon as one may; `first`: the best way on; `total`: all moves. */
 export type Compared = {
-  views: Record<Side, View>;
-  steps: { step: OfferedStep; counts: Record<Side, Counts> }[];
-  first: BestRow | null;
+  views: Record<Side, View>; steps: { step: OfferedStep; counts: Record<Side, Counts> }[]; first: BestRow | null;
   total: number;
 };
 

@@ -24,14 +24,8 @@ export type Offer = { step: OfferedStep; normal: Counted; inverse: Counted; both
  * case before each move of those that lead from an orientation to a reduction; `otherwise`: what a part that reaches
  * nothing would reach on the other side; `now`: the cube then. */
 export type Walk = {
-  parts: Part[];
-  facts: Facts[];
-  reached: string[][];
-  totals: number[];
-  turns: number[];
-  passed: string[][];
-  otherwise: string[][];
-  now: Position;
+  parts: Part[]; facts: Facts[]; reached: string[][]; totals: number[]; turns: number[]; passed: string[][];
+  otherwise: string[][]; now: Position;
 };
 
 /** The cube after each beginning of some parts of a scramble, from none to all. @param scramble by its face turns */

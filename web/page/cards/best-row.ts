@@ -1,6 +1,6 @@
 // A row of the best: its moves with their twins, what they reach, the reduction that follows with its least length on
 // each side alone and how many of that length there are, and its star.
-import { counted, element, inner, type Attributes } from "../shared/element.js";
+import { counted, element, grouped, inner, type Attributes } from "../shared/element.js";
 import { triggerOf, withCases } from "../shared/passage.js";
 import { starButton, takeButton, type StarActs } from "../shared/rows.js";
 import { SIDES, bracketed, sidesOf, type Part, type Side } from "../shared/offered-steps.js";
@@ -52,7 +52,7 @@ export function tellAfter(shown: Element, { next }: Row, after: After) {
   shown.querySelectorAll(".number").forEach((each, at) => {
     const [count, times] = [after[SIDES[at]], inner(each, ".times")];
     if (count === null || times.textContent !== "") return;
-    times.textContent = `×${count.toLocaleString("en")}`;
+    times.textContent = `×${grouped(count)}`;
     each.setAttribute("aria-label", `${each.getAttribute("aria-label")}, ${counted(count, "solution")}`);
   });
 }

@@ -1,5 +1,5 @@
 // Lines that are kept beside each other: nets with what is left to do, how many steps follow, the first of the best.
-import { button, counted, element, inner, part, spoken } from "../shared/element.js";
+import { button, counted, element, grouped, inner, part, spoken } from "../shared/element.js";
 import { SIDES, bracketed, nameOfSide, stateOf, stepNamed, type Part, type Side } from "../shared/offered-steps.js";
 import { showMarked } from "./cube.js";
 import { emptyNet } from "./net.js";
@@ -22,7 +22,7 @@ function netOf(side: Side, view: View, choice: string) {
 
 /** Such as `8 ×4, 9 ×31`. */
 const wordsOf = (counts: Counts) => [...counts].flatMap(([length, count], at) => [at === 0 ? "" : ", ",
-  element("span", { class: "together" }, `${length} ×${count.toLocaleString("en")}`)]);
+  element("span", { class: "together" }, `${length} ×${grouped(count)}`)]);
 
 function followingOf({ steps, views: { normal: { facts } } }: Compared) {
   if (steps.length === 0) return element("p", { class: "note" }, `${NO_STEP_AFTER_DR}.`);

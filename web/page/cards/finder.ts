@@ -9,13 +9,7 @@ export type Next = {
 };
 /** `twins`: their last turns; `passed`: of a reduction the case before each move; `rank`: what puts rows in order. */
 export type Row = {
-  total: number;
-  part: Part;
-  state: string;
-  twins: string[];
-  passed: string[];
-  next: Next | null;
-  key: string;
+  total: number; part: Part; state: string; twins: string[]; passed: string[]; next: Next | null; key: string;
   rank: number;
 };
 /** If it `isWhole` more than the first rows are asked for. */
@@ -95,6 +89,7 @@ export async function findAll(finders: Calls[], question: Question, tell: (progr
   const tried = ORIENTATIONS.map(() => 0);
   let done = 0;
   const told = () => tell({ tried: tried.reduce((sum, each) => sum + each), done, all: axes.length });
+  told();
   const each = await Promise.all(axes.map(async (axis) => {
     const found = await findOnAxis(finders, axis, question, (count) => {
       tried[axis] = count;

@@ -12,11 +12,7 @@ export type Further = Found & { slack: number };
 /** `sizes`: how many orientations each axis has, once they are counted; `isHeld`: it waits until it is asked for;
  * `found`: of the axes that were looked through; `left`: those that are still to be looked at. */
 type Search = {
-  question: Question;
-  sizes: Size[];
-  isHeld: boolean;
-  found: Map<number, FoundOnAxis>;
-  left: number[];
+  question: Question; sizes: Size[]; isHeld: boolean; found: Map<number, FoundOnAxis>; left: number[];
   running: Set<number>;
 };
 
@@ -27,9 +23,7 @@ const IDLE_FOR = 600;
 
 /** `turned`: once it goes on, or no more, or waits to be asked; `looked`: how many axes are looked through. */
 type FurtherActs = {
-  turned: () => void;
-  looked: (done: number, all: number) => void;
-  found: (progress: Further) => void;
+  turned: () => void; looked: (done: number, all: number) => void; found: (progress: Further) => void;
   ended: (fault: Error | null) => void;
 };
 

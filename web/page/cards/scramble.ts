@@ -1,6 +1,6 @@
 // The card of the scramble: its field, what was left out of a text and what is at fault, and its fold.
 import { Stopped } from "../../module/shared/faults.js";
-import { announce, announceLater, counted, part, tell } from "../shared/element.js";
+import { announce, announceLater, counted, grouped, part, tell } from "../shared/element.js";
 import { emptyState } from "../state/address.js";
 import { sheetsIn, withoutAddresses, type NewSheet } from "../state/desk.js";
 import { areSaid, type Copied } from "../state/kept-lines.js";
@@ -214,7 +214,7 @@ export class ScrambleField {
       ...(attempts.length === 1 && name !== "" ? [`“${name}”`] : []),
       ...(whole === null && left > 0 && written.at === 0 ? [counted(left, "other scramble")] : []),
       ...scramble.leftOut,
-      ...(this.#isCut ? [`what is beyond ${LONGEST_SCRAMBLE.toLocaleString("en")} signs`] : []),
+      ...(this.#isCut ? [`what is beyond ${grouped(LONGEST_SCRAMBLE)} signs`] : []),
     ];
     // Back leads to the scramble that was deleted and its lines, also once another one is typed
     const isStep = (isNew || this.#isEmptied) && !this.#isDraft;

@@ -1,6 +1,6 @@
 // The list of a step's solutions: grouped by length and trigger, filtered by turns and by case, cut if it is long.
 import { thrownError, present } from "../shared/certain.js";
-import { announce, announceLater, counted, element, part, setBusy, spoken, tell } from "../shared/element.js";
+import { announce, announceLater, counted, element, grouped, part, setBusy, spoken, tell } from "../shared/element.js";
 import { Filters, NOT_MOVES, ofCases, offerCases, offerMoves, withTurns } from "./filters.js";
 import { GREATEST_SLACK } from "../state/limits.js";
 import { addRows, roveWithin, showRows, starButton, takeButton, takeNamed, type StarActs } from "../shared/rows.js";
@@ -28,7 +28,7 @@ function noteOfList({ entries, all, whole }: Rows, matching: number, shown: numb
   const sentences = [`${whole ? "" : "More than "}${counted(all, "solution")}.`];
   if (all > entries.length) sentences.push(`${counted(entries.length, "row")}: twins share one.`);
   if (matching < entries.length) sentences.push(`${counted(matching, "row")} ${matching === 1 ? "matches" : "match"}.`);
-  const first = shown.toLocaleString("en");
+  const first = grouped(shown);
   if (shown < matching) sentences.push(`The first ${first} are shown: type moves to narrow the list.`);
   if (!whole) sentences.push("There are more than the page has room for.");
   return sentences.join(" ");
@@ -43,10 +43,7 @@ function nameOfGroup({ length, total, passed = [] }: Entry) {
 
 const signsOf = ({ moves, passed = [] }: Entry) => Math.ceil(moves.length + signsOfCases(passed));
 
-type ListActs = StarActs & {
-  take: (parts: Part[], key: string) => void;
-  change: (change: Partial<List> | null) => void;
-};
+type ListActs = StarActs & { take: (parts: Part[], key: string) => void; change: (to: Partial<List> | null) => void };
 
 export class SolutionList {
   #name = "";

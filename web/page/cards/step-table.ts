@@ -1,5 +1,5 @@
 // The table of the steps that may follow: of each what solvers choose it by, and its counts on each side.
-import { counted, element, part, tell, withData } from "../shared/element.js";
+import { counted, element, grouped, part, tell, withData } from "../shared/element.js";
 import {
   SIDES, isReduced, nameOfSide, stateOf, statesOf, titleOf, type OfferedStep, type Part, type Side, type Step,
 } from "../shared/offered-steps.js";
@@ -13,7 +13,7 @@ export type Cube = { facts: Facts; made: number; reached: string[] };
 /** The least length, what that makes in all after moves, how many solutions make that, and a word that is only said. */
 function wordsOfRow({ length, total, solutions, best }: Counted, made: number): string[] {
   if (length === null) return ["–", "", "none within 20 moves", ""];
-  const [some, all] = [best, solutions].map((each) => each.toLocaleString("en"));
+  const [some, all] = [best, solutions].map(grouped);
   const words = best < solutions ? [`${some} of ${all}`, " solutions"] : [counted(solutions, "solution"), ""];
   return [counted(length, "move"), made > 0 ? `${total} in all, ` : "", ...words];
 }
@@ -26,18 +26,20 @@ export const caseOfStep = ({ badEdges, case: cases }: Facts, { axis, needs }: Of
 const SOON = 50;
 
 /** The cube, and the steps that may follow, each with its counts on both sides: by one question, so that none waits for
- * the page. They are waited for a moment, since what is shown by itself is laid out and painted by itself. */
+ * the page. They are waited for a moment, since what is shown by itself is laid out and painted by itself.
+ * @param told the cube as soon as it is known */
 export async function cubeWithOffers(
-  calls: Calls, typed: { text: string; parts: Part[] },
-): Promise<{ cube: Examined | Unexamined; offers: Promise<Offer[]> }> {
+  calls: Calls, typed: { text: string; parts: Part[] }, told: (cube: Examined | Unexamined) => void,
+): Promise<{ cube: Examined | Unexamined; offers: Promise<Offer[]>; isWhole: boolean }> {
   let offers: Promise<Offer[]> = Promise.resolve([]);
   const cube = new Promise<Examined | Unexamined>((settle, refuse) => {
-    offers = calls.ask("examine", typed, settle);
+    offers = calls.ask("examine", typed, (first) => [settle, told].forEach((take) => take(first)));
     offers.catch(refuse);
   });
   // what is wrong is said where it is waited for
-  await Promise.race([offers.catch(() => {}), new Promise((late) => setTimeout(late, SOON))]);
-  return { cube: await cube, offers };
+  const whole = offers.then(() => true, () => true);
+  const isWhole = await Promise.race([whole, new Promise<false>((late) => setTimeout(late, SOON, false))]);
+  return { cube: await cube, offers, isWhole };
 }
 
 const wordsOfAnew = (state: string) => `Going on from here, this ${state} given up`;

@@ -60,17 +60,17 @@ export function setUsable(usable: boolean) {
 }
 
 /** Scrolls to what follows a step: on a narrow page to the results, after the last step to the line. */
-function scrollToNext(isFinished: boolean) {
+function scrollToNext(isFinished: boolean, isAtTop: boolean) {
   if (!areBeside()) return part(isFinished ? "line" : "results").scrollIntoView({ block: "start" });
-  scrollTo({ top: 0, behavior: "instant" });
+  if (!isAtTop) scrollTo({ top: 0, behavior: "instant" });
   // no further than that, so that the nets stay in view
   if (isFinished) part("copy-fmc").scrollIntoView({ block: "nearest" });
 }
 
 /** Has what follows a step come into view and have the focus: the line, which is said to end so, if no step follows. */
-export function showStart(isFinished: boolean, table: { focus: () => void }) {
+export function showStart(isFinished: boolean, table: { focus: () => void }, isAtTop: boolean) {
   // first, since the page is laid out for it, and the focus changes the marks
-  scrollToNext(isFinished);
+  scrollToNext(isFinished, isAtTop);
   if (!isFinished) return table.focus();
   part("line-heading").focus({ preventScroll: true });
   announce(part("finished").textContent);
