@@ -36,13 +36,16 @@ compiled() { # PROGRAM NAME WORD..: compiles the test of this name against the a
     # shellcheck disable=SC2046 # no word or one
     cc -std=c11 "${strict[@]}" "${@:3}" -pthread $(wraps "$2") -o "$1" "tests/library/$2.c" "$folder/libnissy.a"
 }
-has_sanitizer() { # WORD..: programs that are compiled with these words run here
+has_sanitizer() { # COMPILER WORD..: programs that are compiled with these words run here
     echo 'int main(void) { return 0; }' > "$room/empty.c"
-    cc "$@" -o "$room/empty" "$room/empty.c" 2> /dev/null && "$room/empty"
+    "$@" -o "$room/empty" "$room/empty.c" 2> /dev/null && "$room/empty"
 }
 is_sanitized=no sees_races=no
-if has_sanitizer "${sanitized[@]}"; then is_sanitized=yes; else skips "cc has no sanitizers here"; fi
-if has_sanitizer "${for_races[@]}"; then sees_races=yes; else skips "cc has no sanitizer for threads here"; fi
+if has_sanitizer cc "${sanitized[@]}"; then is_sanitized=yes; else skips "cc has no sanitizers here"; fi
+if has_sanitizer cc "${for_races[@]}"; then sees_races=yes; else skips "cc has no sanitizer for threads here"; fi
+# in C++ clang takes half as long with them
+sanitizing=g++
+has_sanitizer clang "${sanitized[@]}" && has_sanitizer clang "${for_races[@]}" && sanitizing=clang++
 missing valgrind && skips "valgrind isn't installed"
 valgrinds() { missing valgrind || add valgrind -q --error-exitcode=99 "$@"; } # WORD..
 
@@ -83,7 +86,7 @@ read_strictly() { # COMPILER: callers have warnings of their own, and no header 
     for header in include/*.hpp; do "$1" -std=c++17 "${strict[@]}" "${more[@]}" -x c++ -fsyntax-only "$header" || return; done
 }
 # Each compiler makes the program of one standard, and reads its text by the other: the headers do the same by both.
-by_compiler() { # COMPILER STANDARD OTHER
+by_compiler() { # COMPILER STANDARD OTHER WORD..
     local compiler=$1
     holds "nissy.h is C++98 too, by $compiler" "$compiler" -std=c++98 "${strict[@]}" -x c++ -fsyntax-only include/nissy.h
     holds "so is nissy_text.h, by $compiler" "$compiler" -std=c++98 "${strict[@]}" -x c++ -fsyntax-only include/nissy_text.h
@@ -92,19 +95,20 @@ by_compiler() { # COMPILER STANDARD OTHER
     holds "nissy.hpp tells C++14 that it is for C++17, by $compiler" tells_older "$compiler"
     holds "and reads the standard of Microsoft's compiler, as $compiler sees it" asks_microsofts "$compiler"
     holds "each header is read without further warnings, by $compiler" read_strictly "$compiler"
-    holds "nissy.cpp compiles as $2 by $compiler" compiled_by "$compiler" "$made/$compiler" "-std=$2"
+    # without -O1 clang++ takes less than half as long, and g++ as long
+    holds "nissy.cpp compiles as $2 by $compiler" compiled_by "$compiler" "$made/$compiler" "-std=$2" "${@:4}"
     add "$made/$compiler"
     holds "nissy.cpp is read as $3 by $compiler" "$compiler" "-std=$3" "${strict[@]}" -fsyntax-only tests/library/nissy.cpp
     ended
 }
-# g++ alone: with the sanitizers, and by valgrind
+# by one compiler with the sanitizers, and what g++ made by valgrind
 with_sanitizers() {
     if [ $is_sanitized = yes ]; then
-        holds "nissy.cpp compiles with the sanitizers" compiled_by g++ "$made/plus.sanitized" -std=c++17 "${sanitized[@]}"
+        holds "nissy.cpp compiles with the sanitizers" compiled_by $sanitizing "$made/plus.sanitized" -std=c++17 "${sanitized[@]}"
         add "$made/plus.sanitized"
     fi
     if [ $sees_races = yes ]; then # of what the header shares between threads
-        holds "nissy.cpp compiles with the sanitizer for threads" compiled_by g++ "$made/plus.raced" -std=c++17 "${for_races[@]}"
+        holds "nissy.cpp compiles with the sanitizer for threads" compiled_by $sanitizing "$made/plus.raced" -std=c++17 "${for_races[@]}"
         add "$made/plus.raced"
     fi
     valgrinds --leak-check=full "$made/g++"
@@ -115,7 +119,7 @@ if missing g++; then skips "g++ isn't installed"; else
     part "${by_gcc[@]}"
     after="${by_gcc[*]}" part with_sanitizers
 fi
-if missing clang++; then skips "clang++ isn't installed"; else part by_compiler clang++ c++20 c++17; fi
+if missing clang++; then skips "clang++ isn't installed"; else part by_compiler clang++ c++20 c++17 -O0; fi
 printf '#include "nissy.h"\nint main(void) { return nissy_invert("R", 1, 0).status; }\n' > "$room/other.c"
 holds "a call with too few arguments doesn't compile" refuses cc -std=c11 "${strict[@]}" -o "$room/other" "$room/other.c" "$folder/libnissy.a"
 
