@@ -49,8 +49,8 @@ class CheckReader {
     const { told: { checks }, scrambles } = this;
     const first = ATTEMPT_READ.firstLine(checks, at);
     const end = ATTEMPT_READ.endLine(checks, at);
-    const isOfReading = doubt?.reason !== "a part" && doubt?.reason !== "another attempt";
-    const attempt = this.#attempts.attempt(first, end, isOfReading ? doubt : null);
+    const isOfCheck = ["a part", "another attempt"].includes(doubt?.reason ?? "");
+    const attempt = this.#attempts.attempt(first, end, isOfCheck ? null : doubt);
     if (scrambles === undefined) return attempt;
     attempt.name = this.#written.part(ATTEMPT_READ.nameBegin(checks, at), ATTEMPT_READ.nameEnd(checks, at));
     // a great number says of none

@@ -41,8 +41,7 @@ export type Turned = { axis: CubeAxis; layers: readonly number[]; way: 1 | -1 };
 function movesOfAxis(
   axis: CubeAxis, near: string, far: string, { slice, way }: { slice: string; way: 1 | -1 },
 ): [string, Turned][] {
-  const turned = (layers: number[], ofLayers: 1 | -1) =>
-    ({ axis, layers: Object.freeze(layers), way: ofLayers });
+  const turned = (layers: number[], ofLayers: 1 | -1) => ({ axis, layers: Object.freeze(layers), way: ofLayers });
   return [
     [near, turned([1], 1)], [far, turned([-1], -1)], [`${near}w`, turned([0, 1], 1)], [`${far}w`, turned([-1, 0], -1)],
     [slice, turned([0], way)], [axis, turned([-1, 0, 1], 1)],

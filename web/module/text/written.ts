@@ -121,8 +121,7 @@ const unitOf = (character: number, { places }: PlainLine) =>
 /** Where a fault or a form of a plain line stands in the text that it is of, or null if a fault has no place. */
 export const placeOf = (
   { character }: { character: number | null }, plain: PlainLine, text: string,
-): TextPlace | null =>
-  (character === null ? null : new TextPlaces(text).of(unitOf(character, plain)));
+): TextPlace | null => (character === null ? null : new TextPlaces(text).of(unitOf(character, plain)));
 
 /** A text in bytes and in units. */
 export class WrittenText {

@@ -49,9 +49,8 @@ const areReductions = ([{ step }]: Offer[]) => step.needs !== null;
 const keepsReached = (offers: Offer[], reached: string[]) =>
   reached.length === 0 || (areReductions(offers) && !isReduced(reached));
 
-const leastOf = (offers: Offer[]) =>
-  Math.min(...offers.flatMap(({ normal, inverse, both }) =>
-    [normal.length, inverse.length, both].map((length) => length ?? Infinity)));
+const leastOf = (offers: Offer[]) => Math.min(...offers.flatMap(({ normal, inverse, both }) =>
+  [normal.length, inverse.length, both].map((length) => length ?? Infinity)));
 
 /** The least length over both sides, if that is less than on each alone. @param least of all that may follow */
 function overBoth({ step, both }: Offer, least: number | null) {

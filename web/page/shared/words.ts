@@ -122,8 +122,7 @@ const WORDS_OF_DOUBTS: Record<string, (word: string, named: Turns | null) => str
   "small letters": (word) => `“${word}” is read as a wide turn: face turns have capital letters`,
   comment: () => "moves and a comment may be taken for each other",
   repetition: (word) => `“${word}” may say that moves are made several times, and they are read once`,
-  insertion: (word) =>
-    `“${word}” may say that moves belong into others, and they are read in the order of the text`,
+  insertion: (word) => `“${word}” may say that moves belong into others, and they are read in the text's order`,
   "step or scramble": () => "this line may be of a scramble, and is read as a step",
   signs: (word) => `“${word}” may stand for moves, and isn't read so`,
   "another attempt": () => "the scramble is solved before this, and another attempt may begin here",
