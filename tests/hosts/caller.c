@@ -169,13 +169,13 @@ static void say_part(text of, lines those, const written *scramble) {
     let_go(steps);
 }
 
-/* Where another attempt may begin after what solves, if there is such a place: at a line of some fifteen moves of which nothing is said. */
+/* Where another attempt may begin after what solves, if there is such a place: at a line of some fifteen moves after which nothing is said. */
 static void say_another(text of, lines those, const written *scramble) {
     size_t at = 0, steps = 0;
     for (; at < those.count; at++) {
         const nissy_text_line *const line = those.first + at;
         if (line->kind != NISSY_STEP_LINE || !line->solution) continue;
-        if (steps++ && line->label_begin == line->label_end && line->comment == line->end && line->comment - line->moves >= 40) break;
+        if (steps++ && line->comment == line->end && line->comment - line->moves >= 40) break;
     }
     if (at == those.count) return;
     const written before = moves_of(of, (lines){those.first, at}, NISSY_OF_SOLUTION);

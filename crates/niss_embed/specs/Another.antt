@@ -5,10 +5,10 @@ use Rattle.niss_text.specs.Moves.{is_wanted}
 use Rattle.niss_text.specs.declared.moves.MovesOf.TheVariants.{Solution}
 use Rattle.niss_text.specs.declared.text_line.TextLine.{TextLine}
 
--- a step of the solution that is as long as a scramble, of fifteen moves at least, and of which nothing is said
+-- a step of the solution that is as long as a scramble, of fifteen moves at least, and after which nothing is said
 abbrev pub is_long_step : TextLine → Bool
 is_long_step line =
-    is_wanted Solution line && (((line.label_begin == line.label_end) && (line.comment == line.end)) && nat_le 40 (line.comment - line.moves))
+    is_wanted Solution line && ((line.comment == line.end) && nat_le 40 (line.comment - line.moves))
 
 -- another attempt may begin in the line of a number: it is such a step, and one of the solution stands before it
 abbrev pub may_begin : List TextLine → ℕ → Bool

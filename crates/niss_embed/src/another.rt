@@ -8,12 +8,12 @@ use niss_text::TextLine;
 /// How many bytes a scramble has at least, on one line: those of fifteen moves.
 const SCRAMBLE_BYTES: usize = 40;
 
-/// Whether a line is a step of the solution that is as long as a scramble, and of which nothing is said.
+/// Whether a line is a step of the solution that is as long as a scramble, and after which nothing is said.
 fn is_long_step(line: &TextLine) -> bool
     ensures { result ≡ is_long_step line.now }
 {
-    let is_bare = line.label_begin == line.label_end && line.comment == line.end;
-    is_of_solution(line) && (is_bare && line.comment.saturating_sub(line.moves) >= SCRAMBLE_BYTES)
+    let is_long = line.comment.saturating_sub(line.moves) >= SCRAMBLE_BYTES;
+    is_of_solution(line) && (line.comment == line.end && is_long)
 }
 
 /// Whether another attempt may begin in a line after one of the solution.

@@ -123,10 +123,9 @@ pub record IsAsWritten (text : List ℕ) (from to : ℕ) : Type 0 where
   pub apart : (j : ℕ) → from < j → j < to → sees text Parted j ≡ true → IsParted text from to
   pub unprimed : ((j : ℕ) → from ≤ j → j < to → sees text Prime j ≡ false) → IsParted text from to
 
--- a line is a step, and nothing stands in it beside its moves
-pub record IsBareStep (line : TextLine) : Type 0 where
+-- a line is a step, and nothing stands after its moves
+pub record IsUncommentedStep (line : TextLine) : Type 0 where
   pub kind : line.kind ≡ 3
-  pub label : line.label_begin ≡ line.label_end
   pub comment : line.comment ≡ line.end
 
 -- What is said to make a line doubtful stands there, and nothing at its end. Nothing is said of a line before a
@@ -135,7 +134,7 @@ pub record IsBareStep (line : TextLine) : Type 0 where
 -- nothing is said has no letters together that aren't written as moves, and no number of times after brackets; one of
 -- the scramble has no small letter of a turn either, and one of the solution none without a capital one, and no digit
 -- in square brackets among its moves. In both no comma stands among moves of which others are parted by blanks. Only a step
--- of which nothing is said may be of a scramble.
+-- after which nothing is said may be of a scramble.
 pub record IsDoubted (text : List ℕ) (line : TextLine) : Type 0 where
   pub place : (line.begin ≤ line.doubt_at) × (line.doubt_at ≤ line.end)
   pub number : (line.doubt ≤ 8) ⊎ ((11 ≤ line.doubt) × (line.doubt ≤ 12))
@@ -156,5 +155,5 @@ pub record IsDoubted (text : List ℕ) (line : TextLine) : Type 0 where
   pub once_solved : line.doubt ≡ 0 → line.kind ≡ 3 → line.is_solution ≡ 1 → HasNone text Repeated line.moves line.comment
   pub commas : line.doubt ≡ 0 → (line.kind ≡ 2) ⊎ ((line.kind ≡ 3) × (line.is_solution ≡ 1)) →
       HasNone text Comma line.moves (line.comment - 2) ⊎ HasNone text Gap line.moves line.comment
-  pub bare : line.doubt ≡ 11 → IsBareStep line
+  pub uncommented : line.doubt ≡ 11 → IsUncommentedStep line
   pub unmarked : line.doubt ≡ 0 → line.kind ≡ 3 → line.is_solution ≡ 1 → HasNone text Marked (line.moves + 1) line.comment

@@ -1,6 +1,6 @@
 //! What makes one doubt that a line is read as it was meant.
 ghost use Rattle.std.specs.Prelude.{◌≡◌, ◌≤◌, ◌<◌, ◌+◌, ◌-◌, ◌⊎◌, true, length, IfSome};
-ghost use Rattle.niss_text.specs.Doubts.{IsDoubted, IsAsWritten, IsBareStep, HasNone, number_of, sees};
+ghost use Rattle.niss_text.specs.Doubts.{IsDoubted, IsAsWritten, IsUncommentedStep, HasNone, number_of, sees};
 ghost use Rattle.niss_text.specs.Lines.{IsLine, IsPlacedAs};
 ghost use Rattle.niss_text.specs.declared.doubts.Doubt.TheVariants.{Nothing, Letters, SmallLetters};
 ghost use Rattle.niss_text.specs.declared.sights.Sight.TheVariants.{Small, Capital, Joined, Repeated, Marked, Comma, Gap};
@@ -206,11 +206,11 @@ fn doubt_of_step(text: &[u8], told: &TextLine, slashes: usize, has_solution: boo
     (Doubt::Nothing, told.end)
 }
 
-/// Whether a line is a step of which nothing is said.
-fn is_bare_step(told: &TextLine) -> bool
-    ensures { result ≡ true → IsBareStep told.now }
+/// Whether a line is a step, and nothing stands after its moves.
+fn is_uncommented_step(told: &TextLine) -> bool
+    ensures { result ≡ true → IsUncommentedStep told.now }
 {
-    told.is_a(LineKind::Step) && (told.label_begin == told.label_end && told.comment == told.end)
+    told.is_a(LineKind::Step) && told.comment == told.end
 }
 
 /// What makes one doubt a line of moves, and where.
@@ -291,13 +291,13 @@ fn doubt_of(text: &[u8], told: &TextLine, line: &Line, sheet: Sheet) -> (Doubt, 
     ensures once_solved { result.0 ≡ Nothing → told.now.kind ≡ 3 → told.now.is_solution ≡ 1 → HasNone text.now Repeated told.now.moves told.now.comment }
     ensures commas { result.0 ≡ Nothing → (told.now.kind ≡ 2) ⊎ ((told.now.kind ≡ 3) × (told.now.is_solution ≡ 1)) →
         HasNone text.now Comma told.now.moves (told.now.comment - 2) ⊎ HasNone text.now Gap told.now.moves told.now.comment }
-    ensures bare { number_of result.0 ≡ 11 → IsBareStep told.now }
+    ensures uncommented { number_of result.0 ≡ 11 → IsUncommentedStep told.now }
     ensures unmarked { result.0 ≡ Nothing → told.now.kind ≡ 3 → told.now.is_solution ≡ 1 → HasNone text.now Marked (told.now.moves + 1) told.now.comment }
 {
     if told.is_a(LineKind::Scramble) {
         return doubt_of_moves(text, told, line, sheet);
     }
-    if sheet.is_stray && is_bare_step(told) {
+    if sheet.is_stray && is_uncommented_step(told) {
         return (Doubt::StepOrScramble, told.moves);
     }
     let is_after = told.is_a(LineKind::Step) || told.is_a(LineKind::Note);

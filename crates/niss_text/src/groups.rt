@@ -113,8 +113,7 @@ pub struct Solutions {
     stray: Stray,
 }
 
-/// A line after a scramble that may be another one: it is as long, nothing is said of it, and moves under it are fewer, or
-/// something is said of them.
+/// A line after a scramble that may be another one, and moves under it are fewer, or something is said of them.
 #[derive(Clone, Copy)]
 struct Stray {
     /// Where the first moves of the last group stand, if they may be a scramble.
@@ -137,7 +136,7 @@ impl Stray {
     fn after(self, line: &Line, at: usize, group: usize, is_first: bool) -> Stray {
         let mut stray = self;
         if is_first {
-            stray.begun = if line.is_bare() && line.is_long() {
+            stray.begun = if line.may_be_scramble() {
                 Some(at)
             } else {
                 None

@@ -59,6 +59,8 @@ pub struct Line {
     pub is_head_alone: bool,
     pub is_moves: bool,
     pub beside: Beside,
+    /// Its label has a digit.
+    is_numbered: bool,
     pub is_solution: bool,
     pub is_final: bool,
     pub is_step: bool,
@@ -102,6 +104,7 @@ impl Line {
             is_head_alone: moves == length && head.0 != Head::None,
             is_moves: moves < length,
             beside: seen_beside(&[], head.0 == Head::Word),
+            is_numbered: false,
             is_solution: false,
             is_final: false,
             is_step: false,
@@ -115,13 +118,21 @@ impl Line {
     }
 
     /// Whether nothing stands in it beside moves.
-    pub fn is_bare(&self) -> bool {
+    pub fn has_only_moves(&self) -> bool {
         self.beside == Beside::Nothing && self.head_kind == Head::None
     }
 
     /// Whether its moves are as many as those of a scramble, or more.
     pub fn is_long(&self) -> bool {
         self.comment - self.moves >= SCRAMBLE_BYTES
+    }
+
+    /// Whether its moves may be a scramble: they are long, and nothing is said of them, but perhaps by words with a number
+    /// in front that name no step and no solution.
+    pub fn may_be_scramble(&self) -> bool {
+        let is_named = self.is_numbered
+            && !(self.is_step || self.is_solution || self.has_comment());
+        self.is_long() && (self.has_only_moves() || is_named)
     }
 
     /// Whether something is said after its moves.
@@ -220,6 +231,7 @@ fn line_behind(line: &[u8], head_kind: Head, head: usize) -> Line
         is_head_alone: head_kind != Head::None && is_empty_from(line, head),
         is_moves: parts.is_moves,
         beside: seen_beside(label, has_words),
+        is_numbered: label.iter().any(|byte| is_digit_byte(*byte)),
         is_solution,
         is_final: is_solution && says(title, Wanted::Final),
         is_step: says(label, Wanted::Step) || says(&line[parts.comment..], Wanted::Step),

@@ -194,7 +194,7 @@ impl Outline {
         requires { (self.now.first ≤ scramble_end) × (scramble_end ≤ length text.now) }
     {
         let next = first_line(&text[scramble_end..], numbers);
-        if self.whole > 0 || !(next.is_moves && next.is_bare()) {
+        if self.whole > 0 || !(next.is_moves && next.has_only_moves()) {
             return false;
         }
         !first_line(&text[self.first..scramble_end], numbers).is_long()
