@@ -132,7 +132,7 @@ if [ ! -e "$release" ]; then skips "the archive in C, which wasn't made"; elif m
                 by_system cmake -S "$room/other" -B "$room/other/built" -DCMAKE_PREFIX_PATH="$room/cmade" && by_system cmake --build "$room/other/built" &&
                 diff <(sed -n '/^```cpp$/,$p' C.md | block text) <("$room/other/built/yours")
         }
-        holds "CMake builds and installs it" by_cmake -DCMAKE_C_FLAGS=-O1
+        holds "CMake builds and installs it" by_cmake -DCMAKE_C_FLAGS_RELEASE=-O1
         holds "each header is there" diff <(ls -- *.h *.hpp) <(ls "$room/cmade/include")
         holds "its program runs from there" test "$("$room/cmade/bin/nissy" invert "R U' F2")" = "F2 U R'"
         holds "another project finds its library, as its page says" uses_it
