@@ -39,12 +39,12 @@ else
 fi
 part python3 tests/hosts/drawn.py "$program" 1 0.12 python "${others[@]}"
 part python3 tests/hosts/after.py 1 600 python "${others[@]}"
-part python3 tests/hosts/plain.py 1 2000 python "${others[@]}"
+part python3 tests/hosts/plain.py 1 1000 python "${others[@]}"
 part python3 tests/hosts/mutated.py 1 1000 python "${others[@]}" "${in_c[@]}"
 part python3 tests/hosts/net.py python "${others[@]}"
 if missing g++; then skips "the best ways on, since there is no g++ for their model"; else
     holds "the model of the best ways on compiles" g++ -std=c++17 -O3 -Wall -Wextra -Werror -o "$room/ways" tests/model/ways.cpp
-    part python3 tests/hosts/best.py 1 30 0 "$room/ways" 30 "${others[@]}"
+    part python3 tests/hosts/best.py 1 16 0 "$room/ways" 16 "${others[@]}"
     part python3 tests/hosts/best.py 2 5 1 "$room/ways" 5 "${others[@]}"
     part python3 tests/hosts/best.py 3 3 2 "$room/ways" 3 "${others[@]}"
 fi
