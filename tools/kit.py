@@ -53,10 +53,12 @@ def built(crate: str, top: str) -> str:
 
 
 def build_below(crate: str) -> str:
-    """Proves and builds the libraries below a crate, once, and returns the top of a copy of the repository below which they are built."""
+    """Proves and builds the libraries below a crate, once, and returns the top of a copy of the repository below which they are built, which may be
+    the copy of another crate that has all of them."""
     with TURNS.setdefault(crate, threading.Lock()):
         if crate not in TOPS:
-            TOPS[crate] = build(below(crate))
+            others = [TOPS[it] for it in list(TOPS) if {*below(crate)} <= {*below(it)}]
+            TOPS[crate] = others[0] if others else build(below(crate))
         return TOPS[crate]
 
 
