@@ -37,7 +37,7 @@ else
     holds "tsc compiles the scripts" tools/web-scripts
     others+=("js=$folder/nissy.wasm")
 fi
-part python3 tests/hosts/drawn.py "$program" 1 0.08 python "${others[@]}"
+part python3 tests/hosts/drawn.py "$program" 1 0.12 python "${others[@]}"
 part python3 tests/hosts/after.py 1 600 python "${others[@]}"
 part python3 tests/hosts/plain.py 1 1000 python "${others[@]}"
 part python3 tests/hosts/mutated.py 1 1000 python "${others[@]}" "${in_c[@]}"
@@ -45,8 +45,8 @@ part python3 tests/hosts/net.py python "${others[@]}"
 if missing g++; then skips "the best ways on, since there is no g++ for their model"; else
     holds "the model of the best ways on compiles" g++ -std=c++17 -O3 -Wall -Wextra -Werror -o "$room/ways" tests/model/ways.cpp
     part python3 tests/hosts/best.py 1 16 0 "$room/ways" 16 "${others[@]}"
-    part python3 tests/hosts/best.py 2 4 1 "$room/ways" 4 "${others[@]}"
-    part python3 tests/hosts/best.py 3 2 2 "$room/ways" 2 "${others[@]}"
+    part python3 tests/hosts/best.py 2 5 1 "$room/ways" 5 "${others[@]}"
+    part python3 tests/hosts/best.py 3 3 2 "$room/ways" 3 "${others[@]}"
 fi
 parts_end
 ended
