@@ -160,7 +160,8 @@ enum nissy_part {
     NISSY_PART_LEFT_OUT = 2,         /* they are left out */
     NISSY_PART_IN_BRACKETS = 3,      /* they are put in brackets */
     NISSY_PART_WITHOUT_BRACKETS = 4, /* all steps lose their brackets */
-    NISSY_PART_EACH_IN_BRACKETS = 5  /* each of these, which may stand apart, is put in brackets of its own */
+    NISSY_PART_EACH_IN_BRACKETS = 5, /* each of these, which may stand apart, is put in brackets of its own */
+    NISSY_PART_REPEATED = 6          /* this one is made twice or three times in its place, without its brackets */
 };
 
 /* What nissy_solving_part returns. */
@@ -175,9 +176,9 @@ typedef struct nissy_part_answer {
 
 /* Whether a part of an attempt solves its scramble: who wrote more than the solution, or the side of a step not at all, may have meant that. The
  * steps are those of one text, a line each, such as nissy_text_moves writes them; the first 24 are looked at. Told is the first part that solves,
- * by its first step, then its last one, then in the order of nissy_part. Then come all steps without their brackets, and last all of them with
- * some of the first eight in brackets: of several such sets that with the least sum, in which the first step counts 1, the next one 2, then 4.
- * What can't be read, or has no moves, doesn't solve. It takes no memory. */
+ * by its first step, then its last one, then in the order of nissy_part. Then come all steps without their brackets, then all of them with some
+ * of the first eight in brackets: of several such sets that with the least sum, in which the first step counts 1, the next one 2, then 4; and last
+ * all with one of them made several times, the first such. What can't be read, or has no moves, doesn't solve. It takes no memory. */
 nissy_part_answer nissy_solving_part(const uint8_t *scramble, size_t scramble_length, const uint8_t *steps, size_t steps_length);
 
 /* What makes one doubt a check too. */

@@ -286,6 +286,13 @@ static void parts_of_steps(void) {
     part_is("R U F D L B", "(R\nU)\nB'\nF\nL'\nD", NISSY_PART_EACH_IN_BRACKETS, 3, 5);
     /* the first, third and fourth step, and not the first, third and fifth, which would solve too */
     part_is("U R U' U' U", "U\nU'\nR\nU'\nU", NISSY_PART_EACH_IN_BRACKETS, 0, 3);
+    /* made twice or three times, and no more often, as it stands or without its brackets: the first one, if two steps solve so */
+    part_is("R U R U F", "F'\nU' R'", NISSY_PART_REPEATED, 1, 1);
+    part_is("F R U R U R U", "(U' R')\nF'", NISSY_PART_REPEATED, 0, 0);
+    part_is("F R U R U D", "D' (F)\n(U' R')", NISSY_PART_REPEATED, 1, 1);
+    part_is("U'", "U'\nU'", NISSY_PART_REPEATED, 0, 0);
+    part_is("R U R U R U R U", "U' R'", NISSY_NO_PART, 0, 0);
+    part_is("R U R U", "(U'\nR')", NISSY_NO_PART, 0, 0);
     part_is("R U F D", "D'\nR\nF'\nU R", NISSY_NO_PART, 0, 0);
     part_is("R U F D", "D'\nQ\nF'\nU", NISSY_NO_PART, 0, 0);
     part_is("R U F", "F' U' R", NISSY_NO_PART, 0, 0);

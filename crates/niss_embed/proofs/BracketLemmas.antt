@@ -1,5 +1,5 @@
 -- No line has a bracket that stands in another one.
-use Rattle.std.proofs.Common.{◌≡◌, ◌∙◌, ℕ, ◌==◌, Bool, true, false, not, cond, if◌then◌else◌, ◌&&◌, ◌||◌, List, [], ◌∷◌, ◌++◌, refl, sym, ap, subst, append_assoc}
+use Rattle.std.proofs.Common.{◌≡◌, ◌∙◌, ℕ, ◌==◌, Bool, true, false, not, cond, if◌then◌else◌, ◌&&◌, ◌||◌, List, [], ◌∷◌, ◌++◌, map, refl, sym, ap, subst, append_assoc}
 use Rattle.std.specs.Prelude.{flat_map}
 use Rattle.std.specs.List.{list_all}
 use Rattle.std.proofs.lemmas.List.Folds.{list_any-append, list_all-append}
@@ -14,7 +14,9 @@ use Rattle.niss_moves.specs.declared.turn.Axis.TheVariants.{Ud, Rl, Fb}
 use Rattle.niss_moves.specs.declared.token.Token.{Token}
 use Rattle.niss_moves.proofs.CallerLemmas.{Yes, Faces, holds, and_left, and_right}
 unfoldable use Rattle.niss_moves.proofs.CallerLemmas.{every_face}
+use Rattle.niss_embed.specs.declared.parts.Brackets.TheVariants.{Kept, Dropped}
 use Rattle.niss_embed.specs.Corners.{EndsNone, has_bracket}
+use Rattle.niss_embed.specs.Parts.{read_byte}
 
 -- where a byte stands: outside brackets, in one, or after a bracket that stands wrong
 data Depth : Type 0 where
@@ -158,3 +160,26 @@ pub more_ends_none : (own more : List ℕ) → EndsNone more → EndsNone (own +
 more_ends_none own more none before n b line =
     let same : before ++ (own ++ more) ≡ (before ++ own) ++ more = simp append_assoc in
     none (before ++ own) n b (subst (λ (v : List ℕ). Spells v n b) same line)
+
+-- Bytes that spell pieces, once they are read, are read so without brackets too.
+pieces_have_none : (ps : List Piece) → list_all is_none (flat_map piece_bytes ps) ≡ true
+pieces_have_none [] = refl
+pieces_have_none (p ∷ ps) =
+    list_all-append is_none (piece_bytes p) (flat_map piece_bytes ps) ∙ (λ i. piece_has_none p i && pieces_have_none ps i)
+
+same_byte : (byte : ℕ) (a b c : Bool) → (byte == 40) ≡ b → (byte == 41) ≡ c → is_none (cond a 32 byte) ≡ true → cond (a || (b || c)) 32 byte ≡ cond a 32 byte
+same_byte byte true b c is_b is_c none = refl
+same_byte byte false false false is_b is_c none = refl
+same_byte byte false true c is_b is_c none = absurd (cc (sym (ap not is_b) ∙ and_left _ _ none))
+same_byte byte false false true is_b is_c none = absurd (cc (sym (ap not is_c) ∙ and_right (not (byte == 40)) _ none))
+
+read_so : (bytes : List ℕ) → list_all is_none (map (read_byte Kept) bytes) ≡ true → map (read_byte Kept) bytes ≡ map (read_byte Dropped) bytes
+read_so [] none = refl
+read_so (byte ∷ bytes) none =
+    let first = same_byte byte (byte == 10) (byte == 40) (byte == 41) refl refl (and_left _ _ none) in
+    let rest = read_so bytes (and_right (is_none (read_byte Kept byte)) _ none) in
+    λ i. sym first i ∷ rest i
+
+pub pieces_read_so : (bytes : List ℕ) (ps : List Piece) → map (read_byte Kept) bytes ≡ flat_map piece_bytes ps →
+    map (read_byte Kept) bytes ≡ map (read_byte Dropped) bytes
+pieces_read_so bytes ps are = read_so bytes (ap (list_all is_none) are ∙ pieces_have_none ps)

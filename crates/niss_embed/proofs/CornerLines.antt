@@ -15,8 +15,10 @@ use Rattle.niss_moves.specs.Solving.{IsRotated, is_rotated, solves}
 use Rattle.niss_moves.specs.declared.token.Token.{Token}
 use Rattle.niss_moves.specs.declared.fault.ReadFault.{ReadFault}
 use Rattle.niss_moves.proofs.CallerLemmas.{inverse-append}
-use Rattle.niss_embed.specs.declared.parts.Brackets.TheVariants.{Kept}
+use Rattle.niss_embed.specs.declared.parts.Brackets.{Brackets}
+use Rattle.niss_embed.specs.declared.parts.Brackets.TheVariants.{Kept, Dropped}
 use Rattle.niss_embed.specs.declared.step_corners.StepCorners.{StepCorners}
+use Rattle.niss_embed.proofs.BracketLemmas.{pieces_read_so}
 use Rattle.niss_embed.specs.Corners.{Brings, Reads, Ascends, has_bracket}
 use Rattle.niss_embed.specs.Parts.{read_byte, solves_line, steps_line}
 
@@ -131,25 +133,39 @@ has_none p true e f = absurd (cc (sym e ∙ f))
 has_none p false e f = refl
 
 -- Bytes are read as bytes that have a bracket if they have one.
-same_bracket : (bytes : List ℕ) → has_bracket (map (read_byte Kept) bytes) ≡ has_bracket bytes
+pub same_bracket : (bytes : List ℕ) → has_bracket (map (read_byte Kept) bytes) ≡ has_bracket bytes
 same_bracket [] = refl
 same_bracket (byte ∷ bytes) = λ i. by_test byte i || same_bracket bytes i
   where
     by_test : (byte : ℕ) → (read_byte Kept byte == 40) ≡ (byte == 40)
     by_test byte = elim (eqb_tells byte 10) [ inl w ↦ rw w.1 refl | inr w ↦ ap (λ b. (cond b 32 byte) == 40) w.0 ]
 
+-- Without brackets they have none.
+pub dropped_bracket : (bytes : List ℕ) → has_bracket (map (read_byte Dropped) bytes) ≡ false
+dropped_bracket [] = refl
+dropped_bracket (byte ∷ bytes) = λ i. by_test byte i || dropped_bracket bytes i
+  where
+    by_tests : (byte : ℕ) (a b c : Bool) → (byte == 40) ≡ b → (cond (a || (b || c)) 32 byte == 40) ≡ false
+    by_tests byte true b c e = refl
+    by_tests byte false true c e = refl
+    by_tests byte false false true e = refl
+    by_tests byte false false false e = e
+
+    by_test : (byte : ℕ) → (read_byte Dropped byte == 40) ≡ false
+    by_test byte = by_tests byte (byte == 10) (byte == 40) (byte == 41) refl
+
 -- a step that was read to its end
-pub step_reads : (bytes : List ℕ) (c : StepCorners) (m : Moves) → IsRead → read_line (map (read_byte Kept) bytes) ≡ Ok m → Brings c.normal.to m.normal →
-    Brings c.undone.to (inverse m.normal) → Brings c.inverse.to (inverse m.bracketed) → c.plain ≡ not (has_bracket bytes) →
-    Reads (map (read_byte Kept) bytes) c
-step_reads bytes c m is_read is brings undoes inverts plain = record {
+pub step_reads : (brackets : Brackets) (bytes : List ℕ) (c : StepCorners) (m : Moves) → IsRead → read_line (map (read_byte brackets) bytes) ≡ Ok m →
+    Brings c.normal.to m.normal → Brings c.undone.to (inverse m.normal) → Brings c.inverse.to (inverse m.bracketed) →
+    c.plain ≡ not (has_bracket (map (read_byte brackets) bytes)) → Reads (map (read_byte brackets) bytes) c
+step_reads brackets bytes c m is_read is brings undoes inverts plain = record {
   normal = m.normal;
   bracketed = m.bracketed;
-  spells = ((is_read (map (read_byte Kept) bytes) m).0 is).0;
+  spells = ((is_read (map (read_byte brackets) bytes) m).0 is).0;
   brings = brings;
   undoes = undoes;
   inverts = inverts;
-  is_plain = plain ∙ ap not (sym (same_bracket bytes));
+  is_plain = plain;
 }
 
 -- Steps from one to a second and from there to a third are those from the one to the third.
@@ -198,3 +214,11 @@ steps_more text bounds steps more one at number is reads last = (omega (arith, n
         let to : at ≡ k + 1 = omega (arith, number, same) in
         subst (Reads (steps_line text bounds k (k + 1))) (sym is_last)
         (subst (λ (n : ℕ). Reads (steps_line text bounds k n) one) to (subst (λ (n : ℕ). Reads (steps_line text bounds n at) one) from last))
+
+-- what is read of a step without brackets is so without its brackets
+pub bare_reads : (bytes : List ℕ) (c : StepCorners) → c.plain ≡ true → Reads (map (read_byte Kept) bytes) c → Reads (map (read_byte Dropped) bytes) c
+bare_reads bytes c plain reads =
+    let none : has_bracket (map (read_byte Kept) bytes) ≡ false = has_none c.plain (has_bracket (map (read_byte Kept) bytes)) reads.is_plain plain in
+    let it = reads.spells in
+    let w = plain_items it.items (ap has_bracket (sym it.bytes_are) ∙ none) in
+    subst (λ (read : List ℕ). Reads read c) (pieces_read_so bytes w.0 (it.bytes_are ∙ w.1)) reads

@@ -183,3 +183,13 @@ part_found solving steps first p none is = (is.1, is.2, λ q among before. earli
 
 pub none_at_all : (solving : Part → Bool) (steps first : ℕ) → steps ≤ first → NoneBefore steps solving first → IsFirst steps solving None
 none_at_all solving steps first all none q among = none q among (omega (arith, among.0, among.1, all))
+
+-- one step more that doesn't solve
+pub none_to_more : (solving : ℕ → Bool) (n : ℕ) → ((k : ℕ) → k < n → solving k ≡ false) → solving n ≡ false → (k : ℕ) → k < n + 1 → solving k ≡ false
+none_to_more solving n none not k less = by_order (cases_lt k n)
+  where
+    by_order : (k < n) ⊎ (n ≤ k) → solving k ≡ false
+    by_order (inl before) = none k before
+    by_order (inr last) =
+        let same : k ≡ n = omega (arith, less, last) in
+        ap solving same ∙ not

@@ -84,6 +84,12 @@ tail_between before own after to tail =
     let same : before ++ (own ++ after) ≡ before ++ own ++ after = simp append_assoc in
     subst (λ (v : List ℕ). IsTail v to) same tail
 
+-- bytes three times, before others
+pub tail_of_three : (own after to : List ℕ) → IsTail (own ++ (own ++ (own ++ after))) to → IsTail (own ++ own ++ own ++ after) to
+tail_of_three own after to tail =
+    let same : own ++ (own ++ (own ++ after)) ≡ own ++ own ++ own ++ after = simp append_assoc in
+    subst (λ (v : List ℕ). IsTail v to) same tail
+
 -- all steps from one on are that one and those after it
 abbrev steps_of : List ℕ → ℕ
 steps_of bounds = length bounds - 1

@@ -1,5 +1,5 @@
 -- Where moves bring the corners of the cube, by numbers of their places; and what parts of a line do to the corners.
-use Rattle.std.specs.Prelude.{◌≡◌, ℕ, ◌+◌, ◌-◌, ◌*◌, ◌<◌, ◌≤◌, ◌⊎◌, ◌==◌, Bool, true, not, ◌||◌, List, [], ◌∷◌, ◌++◌, length, map, flat_map, IfSome, get_or, slice_index, slice_range}
+use Rattle.std.specs.Prelude.{◌≡◌, ℕ, ◌+◌, ◌-◌, ◌*◌, ◌<◌, ◌≤◌, ◌⊎◌, ◌==◌, Bool, true, not, ◌||◌, List, [], ◌∷◌, ◌++◌, length, flat_map, get_or, slice_index}
 use Rattle.std.specs.List.{list_any, range_with_len}
 use Rattle.niss_moves.specs.Effects.{effect, inverse}
 use Rattle.niss_moves.specs.Line.{Spells, Moves, joined_moves}
@@ -9,13 +9,11 @@ use Rattle.niss_moves.specs.declared.token.Token.{Token}
 use Rattle.niss_moves.specs.declared.turn.Power.{Power}
 use Rattle.niss_embed.specs.declared.corners.Corners.{Corners}
 use Rattle.niss_embed.specs.declared.corners.TheConstants.{TURNS, ROTATIONS}
-use Rattle.niss_embed.specs.declared.parts.Brackets.TheVariants.{Kept}
 use Rattle.niss_embed.specs.declared.step_corners.StepCorners.{StepCorners}
 use Rattle.niss_embed.specs.declared.step_corners.Around.{Around}
 use Rattle.niss_embed.specs.declared.step_corners.AttemptCorners.{AttemptCorners}
-use Rattle.niss_embed.specs.declared.parts.Part.{Part}
 use Rattle.niss_embed.specs.declared.step_sets.StepSet.{StepSet}
-use Rattle.niss_embed.specs.Parts.{read_byte, end_of_steps, steps_line, step_with}
+use Rattle.niss_embed.specs.Parts.{steps_line, step_with}
 
 abbrev pub side : Coord → ℕ
 side Pos = 1

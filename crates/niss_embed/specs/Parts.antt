@@ -142,6 +142,32 @@ abbrev pub IsFirst : ℕ → (Part → Bool) → Option Part → Type 0
 IsFirst steps solving (Some p) = IsPart steps p × (solving p ≡ true) × ((q : Part) → IsPart steps q → IsBefore q p → solving q ≡ false)
 IsFirst steps solving None = (q : Part) → IsPart steps q → solving q ≡ false
 
+-- a step without its brackets
+abbrev pub bare_step : (text bounds : List ℕ) → ℕ → List ℕ
+bare_step text bounds step = map (read_byte Dropped) (slice_range text (slice_index bounds step) (slice_index bounds (step + 1)))
+
+-- bytes twice, or three times
+abbrev pub repeated : (thrice : Bool) → List ℕ → List ℕ
+repeated false bytes = bytes ++ bytes
+repeated true bytes = bytes ++ bytes ++ bytes
+
+-- the line of all steps, of which one is made so often without its brackets
+abbrev pub repeated_line : (text bounds : List ℕ) → ℕ → (thrice : Bool) → List ℕ
+repeated_line text bounds step thrice =
+    steps_line text bounds 0 step ++ repeated thrice (bare_step text bounds step) ++ steps_line text bounds (step + 1) (number_of_steps bounds)
+
+abbrev pub solves_so_often : Result Moves ReadFault → (text bounds : List ℕ) → ℕ → (thrice : Bool) → Bool
+solves_so_often scramble text bounds step thrice = solves_line scramble (read_line (repeated_line text bounds step thrice))
+
+-- all steps solve if one is made twice or three times
+abbrev pub solves_repeated : Result Moves ReadFault → (text bounds : List ℕ) → ℕ → Bool
+solves_repeated scramble text bounds step = solves_so_often scramble text bounds step false || solves_so_often scramble text bounds step true
+
+-- of so many steps this is the first that solves, if one does
+abbrev pub IsFirstStep : ℕ → (ℕ → Bool) → Option ℕ → Type 0
+IsFirstStep steps solving (Some step) = (step < steps) × (solving step ≡ true) × ((k : ℕ) → k < step → solving k ≡ false)
+IsFirstStep steps solving None = (k : ℕ) → k < steps → solving k ≡ false
+
 -- these are some of so many steps, and of the first ones
 abbrev pub AreSome : ℕ → StepSet → Type 0
 AreSome steps set = (0 < set.number) × (set.number < 2 ^ min steps most_in_sets)
@@ -157,15 +183,24 @@ abbrev pub IsWithin : ℕ → Found → Type 0
 IsWithin steps (found.Part p) = IsPart steps p
 IsWithin steps found.WithoutBrackets = Unit {0}
 IsWithin steps (found.EachInBrackets set) = AreSome steps set
+IsWithin steps (found.Repeated step) = step < steps
 IsWithin steps found.Nothing = Unit {0}
 
--- What is found of so many steps, by which parts solve, whether all do without their brackets, and which sets solve if each
--- step of theirs is in brackets: the first part that solves, else all, else the least set, else nothing.
-abbrev pub IsFound : ℕ → (Part → Bool) → Bool → (StepSet → Bool) → Found → Type 0
-IsFound steps solving whole with_set (found.Part p) = IsFirst steps solving (Some p)
-IsFound steps solving whole with_set found.WithoutBrackets = IsFirst steps solving None × (whole ≡ true)
-IsFound steps solving whole with_set (found.EachInBrackets set) = IsFirst steps solving None × (whole ≡ false) × IsLeast steps with_set (Some set)
-IsFound steps solving whole with_set found.Nothing = IsFirst steps solving None × (whole ≡ false) × IsLeast steps with_set None
+-- what is known of so many steps if no part solves, nor all without their brackets, nor a set
+abbrev pub NoneButRepeated : ℕ → (Part → Bool) → Bool → (StepSet → Bool) → Type 0
+NoneButRepeated steps solving whole with_set = IsFirst steps solving None × (whole ≡ false) × IsLeast steps with_set None
+
+-- What is found of so many steps, by which parts solve, whether all do without their brackets, which sets solve if each
+-- step of theirs is in brackets, and which steps do if they are made several times: the first part that solves, else all,
+-- else the least set, else the first step, else nothing.
+abbrev pub IsFound : ℕ → (Part → Bool) → Bool → (StepSet → Bool) → (ℕ → Bool) → Found → Type 0
+IsFound steps solving whole with_set several (found.Part p) = IsFirst steps solving (Some p)
+IsFound steps solving whole with_set several found.WithoutBrackets = IsFirst steps solving None × (whole ≡ true)
+IsFound steps solving whole with_set several (found.EachInBrackets set) =
+    IsFirst steps solving None × (whole ≡ false) × IsLeast steps with_set (Some set)
+IsFound steps solving whole with_set several (found.Repeated step) =
+    NoneButRepeated steps solving whole with_set × IsFirstStep steps several (Some step)
+IsFound steps solving whole with_set several found.Nothing = NoneButRepeated steps solving whole with_set × IsFirstStep steps several None
 
 abbrev pub no_part : Status → PartAnswer
 no_part status = record { status = status_number status; how = 0; first = 0; last = 0; begin = 0 }
@@ -177,6 +212,8 @@ answer_of bounds (found.Part p) =
 answer_of bounds found.WithoutBrackets = record { status = status_number Done; how = 4; first = 0; last = number_of_steps bounds - 1; begin = 0 }
 answer_of bounds (found.EachInBrackets set) =
     record { status = status_number Done; how = 5; first = first_in set; last = last_in set; begin = slice_index bounds (first_in set) }
+answer_of bounds (found.Repeated step) =
+    record { status = status_number Done; how = 6; first = step; last = step; begin = slice_index bounds step }
 answer_of bounds found.Nothing = no_part Done
 
 -- What a call tells of a scramble and steps, which begin and end at these places, and of which one is too long or none is.
@@ -184,7 +221,7 @@ abbrev pub Tells : Bool → (scramble steps bounds : List ℕ) → PartAnswer �
 Tells true scramble steps bounds answer = answer ≡ no_part Stopped
 Tells false scramble steps bounds answer =
     (it : Found) × IsFound (number_of_steps bounds) (solves_part (read_line scramble) steps bounds) (solves_whole (read_line scramble) steps bounds)
-    (solves_with (read_line scramble) steps bounds) it
+    (solves_with (read_line scramble) steps bounds) (solves_repeated (read_line scramble) steps bounds) it
     × (answer ≡ answer_of bounds it)
 
 -- the steps that are looked at

@@ -37,6 +37,7 @@ mod line_texts;
 mod many_lines;
 mod memory;
 mod parts;
+mod repeated_steps;
 mod runs;
 mod search_answer;
 mod sides;

@@ -1,7 +1,7 @@
 //! Whether a part of the steps of an attempt solves its scramble.
 ghost use Rattle.std.specs.Prelude.{◌≡◌, ◌<◌, ◌≤◌, ◌+◌, ◌-◌, ◌++◌, ℕ, List, [], ◌∷◌, Ok, length, map, take};
 ghost use Rattle.niss_moves.specs.Reader.{IsFed, read_line};
-ghost use Rattle.niss_embed.specs.Parts.{read_byte, how_number, number_of_steps, arranged, solves_line, solves_part, solves_whole, solves_with, part};
+ghost use Rattle.niss_embed.specs.Parts.{read_byte, how_number, number_of_steps, arranged, solves_line, solves_part, solves_repeated, solves_whole, solves_with, part};
 ghost use Rattle.niss_shell.specs.Words.{most_bytes};
 ghost use Rattle.niss_embed.specs.Corners.{AreBounds, IsAttempt, IsAroundPart};
 ghost use Rattle.niss_embed.specs.Parts.{IsHow, IsFirst, IsFirstFrom, IsFound, IsWithin, TellsPart, answer_of, no_part};
@@ -9,6 +9,7 @@ ghost use Rattle.niss_embed.specs.declared.parts.Brackets.TheVariants.{Kept};
 
 use crate::answer::Status;
 use crate::line_texts::read_by;
+use crate::repeated_steps::repeated_step;
 use crate::step_bounds::bounds_of;
 use crate::step_corners::{Around, AttemptCorners};
 use crate::step_sets::{StepSet, feed_step, least_set};
@@ -25,7 +26,8 @@ const MOST_STEP_BYTES: usize = 65_536;
 pub struct PartAnswer {
     /// The number of a `Status`.
     pub status: u8,
-    /// 0 if nothing solves, 1 to 3 in the order of `How`, 4 if all steps solve without their brackets, 5 if some in brackets.
+    /// 0 if nothing solves, 1 to 3 in the order of `How`, 4 if all steps solve without their brackets, 5 if some in brackets,
+    /// 6 if one is made several times.
     pub how: u8,
     /// The first step of the part, or of those in brackets, from 0.
     pub first: u8,
@@ -76,6 +78,8 @@ pub enum Found {
     WithoutBrackets,
     /// All do, and each of these is in brackets of its own.
     EachInBrackets(StepSet),
+    /// All do, and this one is made twice or three times, without its brackets.
+    Repeated(usize),
     Nothing,
 }
 
@@ -276,7 +280,7 @@ fn found_in(scramble: &Niss, text: &[u8], bounds: &[usize]) -> Found
     requires bounds { AreBounds bounds.now }
     requires room { length text.now ≤ 65536 }
     ensures { IsFound (number_of_steps bounds.now) (solves_part (Ok scramble.now) text.now bounds.now)
-        (solves_whole (Ok scramble.now) text.now bounds.now) (solves_with (Ok scramble.now) text.now bounds.now) result }
+        (solves_whole (Ok scramble.now) text.now bounds.now) (solves_with (Ok scramble.now) text.now bounds.now) (solves_repeated (Ok scramble.now) text.now bounds.now) result }
 {
     let corners = AttemptCorners::of(scramble, text, bounds);
     if let Some(part) = first_part(scramble, text, bounds, &corners) {
@@ -285,8 +289,11 @@ fn found_in(scramble: &Niss, text: &[u8], bounds: &[usize]) -> Found
     if solves_whole(scramble, text, bounds) {
         return Found::WithoutBrackets;
     }
-    match least_set(scramble, text, bounds, &corners) {
-        Some(set) => Found::EachInBrackets(set),
+    if let Some(set) = least_set(scramble, text, bounds, &corners) {
+        return Found::EachInBrackets(set);
+    }
+    match repeated_step(scramble, text, bounds, &corners) {
+        Some(step) => Found::Repeated(step),
         None => Found::Nothing,
     }
 }
@@ -297,7 +304,8 @@ fn found_after(scramble: &[u8], text: &[u8], bounds: &[usize]) -> Found
     requires bounds { AreBounds bounds.now }
     requires room { (length scramble.now ≤ most_bytes) × (length text.now ≤ 65536) }
     ensures { IsFound (number_of_steps bounds.now) (solves_part (read_line scramble.now) text.now bounds.now)
-        (solves_whole (read_line scramble.now) text.now bounds.now) (solves_with (read_line scramble.now) text.now bounds.now) result }
+        (solves_whole (read_line scramble.now) text.now bounds.now) (solves_with (read_line scramble.now) text.now bounds.now)
+        (solves_repeated (read_line scramble.now) text.now bounds.now) result }
 {
     let mut reader = LineReader::new();
     match read_by(&mut reader, scramble) {
@@ -345,6 +353,13 @@ impl PartAnswer {
                 first: set.first() as u8,
                 last: set.last() as u8,
                 begin: bounds[set.first()],
+                ..done
+            },
+            Found::Repeated(step) => PartAnswer {
+                how: 6,
+                first: step as u8,
+                last: step as u8,
+                begin: bounds[step],
                 ..done
             },
             Found::Nothing => done,

@@ -1,10 +1,10 @@
 //! What steps of an attempt do to the corners of the cube.
-ghost use Rattle.std.specs.Prelude.{◌≡◌, ◌<◌, ◌≤◌, ◌+◌, ℕ, true, false, List, [], ◌++◌, Ok, map, IfSome, length};
+ghost use Rattle.std.specs.Prelude.{◌≡◌, ◌<◌, ◌≤◌, ◌+◌, ℕ, not, true, false, List, [], ◌++◌, Ok, map, IfSome, length};
 ghost use Rattle.niss_moves.specs.Effects.{inverse};
 ghost use Rattle.niss_moves.specs.Line.{Moves, joined_moves};
 ghost use Rattle.niss_moves.specs.Reader.{read_line};
-ghost use Rattle.niss_embed.specs.Corners.{Brings, Reads, AreBounds, AreSteps, IsAround, IsAroundPart, IsAttempt, IsTail, AreTails};
-ghost use Rattle.niss_embed.specs.Parts.{read_byte, arranged, solves_line, solves_part, part, in_brackets_if};
+ghost use Rattle.niss_embed.specs.Corners.{Brings, Reads, has_bracket, AreBounds, AreSteps, IsAround, IsAroundPart, IsAttempt, IsTail, AreTails};
+ghost use Rattle.niss_embed.specs.Parts.{read_byte, arranged, bare_step, repeated, solves_line, solves_part, solves_so_often, part, in_brackets_if};
 ghost use Rattle.niss_embed.specs.declared.parts.Brackets.TheVariants.{Kept};
 
 use crate::corners::Corners;
@@ -87,19 +87,40 @@ impl StepCorners {
         }
         later.then(&self.undone)
     }
+
+    /// The same of moves that are made twice or three times.
+    fn repeated(&self, later: &Corners, thrice: bool) -> Corners
+        ensures { (bytes more : List ℕ) → Reads bytes self.now → IsTail more later.now.to → IsTail (repeated thrice bytes ++ more) result.to }
+    {
+        let twice = self.with_later(&self.with_later(later, false), false);
+        if !thrice {
+            return twice;
+        }
+        self.with_later(&twice, false)
+    }
+}
+
+/// Whether no bracket opens in a step once it is read.
+fn is_plain(step: &[u8], brackets: Brackets) -> bool
+    ensures { result ≡ not (has_bracket (map (read_byte brackets) step.now)) }
+{
+    match brackets {
+        Brackets::Kept => !has_brackets(step),
+        Brackets::Dropped => true,
+    }
 }
 
 /// What a step does, if it is a line by itself.
 #[inline(never)]
-fn corners_of_step(step: &[u8]) -> Option<StepCorners>
+pub fn corners_of_step(step: &[u8], brackets: Brackets) -> Option<StepCorners>
     requires room { length step.now ≤ 65536 }
-    ensures { IfSome result (λ corners. Reads (map (read_byte Kept) step.now) corners) }
+    ensures { IfSome result (λ corners. Reads (map (read_byte brackets) step.now) corners) }
 {
     line_is_read();
     let mut reader = LineReader::new();
-    feed(&mut reader, step, Brackets::Kept);
+    feed(&mut reader, step, brackets);
     match reader.end() {
-        Ok(()) => Some(StepCorners::of(reader.moves(), !has_brackets(step))),
+        Ok(()) => Some(StepCorners::of(reader.moves(), is_plain(step, brackets))),
         Err(_) => None,
     }
 }
@@ -115,7 +136,7 @@ fn are_lines(text: &[u8], bounds: &[usize], steps: &mut ArrayVec<StepCorners, MO
 {
     let mut all = true;
     for at in 1..bounds.len() {
-        match corners_of_step(stretch(text, bounds[at - 1], bounds[at])) {
+        match corners_of_step(stretch(text, bounds[at - 1], bounds[at]), Brackets::Kept) {
             Some(step) => steps.push(step),
             None => {
                 steps.push(StepCorners::nothing());
@@ -261,5 +282,15 @@ impl<'a> Around<'a> {
             result ≡ false → solves_part (Ok scramble) text bounds (part how first behind) ≡ false }
     {
         self.attempt.may_solve(&self.line(how))
+    }
+
+    /// Whether all steps may solve the scramble if their own one does this without its brackets, and is made so often.
+    pub fn may_repeat(&self, bare: &StepCorners, thrice: bool) -> bool
+        ensures { (scramble : Moves) (text bounds : List ℕ) (step : ℕ) → IsAroundPart scramble text bounds step (step + 1) self.now →
+            Reads (bare_step text bounds step) bare.now → result ≡ false → solves_so_often (Ok scramble) text bounds step thrice ≡ false }
+    {
+        let later = bare.repeated(&self.after, thrice);
+        self.attempt
+            .may_solve(&self.before.with_later(&later, false))
     }
 }

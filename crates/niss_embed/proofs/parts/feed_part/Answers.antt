@@ -1,4 +1,4 @@
-use Rattle.std.proofs.Common.{ℕ, List, [], ◌++◌, map, sym, subst}
+use Rattle.std.proofs.Common.{ℕ, List, [], map, sym, subst}
 use Rattle.niss_moves.specs.Reader.{IsFed}
 use Rattle.niss_embed.specs.declared.parts.Brackets.TheVariants.{Kept}
 use Rattle.niss_embed.specs.declared.parts.How.{How}

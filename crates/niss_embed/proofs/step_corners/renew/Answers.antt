@@ -1,4 +1,4 @@
-use Rattle.std.proofs.Common.{◌≡◌, ◌+◌, ◌-◌, ◌<◌, ℕ, length, refl, subst, arith, rules}
+use Rattle.std.proofs.Common.{◌≡◌, ◌+◌, ◌-◌, ◌<◌, ℕ, length, subst, arith, rules}
 use Rattle.niss_embed.specs.Corners.{AreTails}
 use Rattle.niss_embed.proofs.TailLemmas.{tails_more}
 use Rattle.niss_embed.proofs.step_corners.renew.Goals as goal

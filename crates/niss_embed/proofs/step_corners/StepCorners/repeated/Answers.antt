@@ -1,0 +1,13 @@
+use Rattle.std.proofs.Common.{◌++◌}
+use Rattle.niss_embed.proofs.TailLemmas.{tail_between, tail_of_three}
+use Rattle.niss_embed.proofs.step_corners.StepCorners.repeated.Goals as goal
+
+pub returns-then-not-thrice : goal.returns-then-not-thrice
+returns-then-not-thrice c bytes more one later =
+    rw c.if-not-thrice.true (tail_between bytes bytes more c.with_later-twice.result.to
+    (c.with_later-twice.ensures bytes (bytes ++ more) one (c.with_later.ensures bytes more one later)))
+
+pub returns : goal.returns
+returns c bytes more one later =
+    rw c.if-not-thrice.false (tail_of_three bytes more c.with_later-2.result.to
+    (c.with_later-2.ensures bytes (bytes ++ (bytes ++ more)) one (c.with_later-twice.ensures bytes (bytes ++ more) one (c.with_later.ensures bytes more one later))))

@@ -1,0 +1,130 @@
+//! A step of an attempt that, made twice or three times, has it solve its scramble.
+ghost use Rattle.std.specs.Prelude.{◌≡◌, ◌<◌, ◌≤◌, ◌+◌, ◌*◌, ◌++◌, ℕ, List, [], Ok, IfSome, false, length, map};
+ghost use Rattle.niss_moves.specs.Line.{Moves};
+ghost use Rattle.niss_moves.specs.Reader.{IsFed};
+ghost use Rattle.niss_embed.specs.Corners.{IsAroundPart, IsAttempt, Reads};
+ghost use Rattle.niss_embed.specs.Parts.{IsFirstStep, bare_step, number_of_steps, read_byte, repeated, solves_repeated, solves_so_often};
+ghost use Rattle.niss_embed.specs.declared.parts.Brackets.TheVariants.{Kept, Dropped};
+
+use crate::parts::{Brackets, feed, solves_so};
+use crate::step_corners::{Around, AttemptCorners, StepCorners, corners_of_step};
+use crate::stretch::stretch;
+use niss_moves::{LineReader, Niss};
+
+/// Has a reader read a step without its brackets, twice or three times.
+fn feed_times(reader: &mut LineReader, step: &[u8], thrice: bool)
+    requires room { reader.old.fed + 3 * length step.now ≤ 16777216 }
+    ensures fed { reader.new.fed ≤ reader.old.fed + 3 * length step.now }
+    ensures bytes { (front : List ℕ) → IsFed reader.old front →
+        IsFed reader.new (front ++ repeated thrice (map (read_byte Dropped) step.now)) }
+{
+    feed(reader, step, Brackets::Dropped);
+    feed(reader, step, Brackets::Dropped);
+    if thrice {
+        feed(reader, step, Brackets::Dropped);
+    }
+}
+
+/// Has a reader read all steps, of which one is made so often.
+fn feed_repeated(reader: &mut LineReader, before: &[u8], step: &[u8], after: &[u8], thrice: bool)
+    requires new { (reader.old.fed ≡ 0) × IsFed reader.old [] }
+    requires room { length before.now + 3 * length step.now + length after.now < 16777214 }
+    ensures { IsFed reader.new (map (read_byte Kept) before.now ++ repeated thrice (map (read_byte Dropped) step.now) ++ map (read_byte Kept) after.now) }
+{
+    feed(reader, before, Brackets::Kept);
+    feed_times(reader, step, thrice);
+    feed(reader, after, Brackets::Kept);
+}
+
+/// Whether all steps solve a scramble if one is made so often.
+fn solves_so_often(
+    scramble: &Niss,
+    text: &[u8],
+    bounds: &[usize],
+    step: usize,
+    thrice: bool,
+) -> bool
+    requires step { step + 1 < length bounds.now }
+    requires room { length text.now ≤ 65536 }
+    ensures { result ≡ solves_so_often (Ok scramble.now) text.now bounds.now step thrice }
+{
+    let before = stretch(text, bounds[0], bounds[step]);
+    let own = stretch(text, bounds[step], bounds[step + 1]);
+    let after = stretch(text, bounds[step + 1], bounds[bounds.len() - 1]);
+    let mut reader = LineReader::new();
+    feed_repeated(&mut reader, before, own, after, thrice);
+    solves_so(scramble, &mut reader)
+}
+
+/// What a step does without its brackets, if it is a line by itself then. Most steps have none.
+fn corners_of_bare(
+    text: &[u8],
+    bounds: &[usize],
+    step: usize,
+    around: &Around,
+) -> Option<StepCorners>
+    requires step { step + 1 < length bounds.now }
+    requires room { length text.now ≤ 65536 }
+    ensures { (scramble : Moves) → IsAroundPart scramble text.now bounds.now step (step + 1) around.now →
+        IfSome result (Reads (bare_step text.now bounds.now step)) }
+{
+    if around.attempt.are_lines && around.own.plain {
+        return Some(around.own);
+    }
+    corners_of_step(
+        stretch(text, bounds[step], bounds[step + 1]),
+        Brackets::Dropped,
+    )
+}
+
+/// Whether they may, by what they do to the corners. Nothing is known of a step that isn't a line by itself.
+fn may_so_often(around: &Around, bare: &Option<StepCorners>, thrice: bool) -> bool
+    ensures { (scramble : Moves) (text bounds : List ℕ) (step : ℕ) → IsAroundPart scramble text bounds step (step + 1) around.now →
+        IfSome bare.now (Reads (bare_step text bounds step)) → result ≡ false → solves_so_often (Ok scramble) text bounds step thrice ≡ false }
+{
+    match bare {
+        Some(bare) => around.may_repeat(bare, thrice),
+        None => true,
+    }
+}
+
+/// Whether all steps solve a scramble if one is made twice or three times.
+fn solves_repeated(
+    scramble: &Niss,
+    text: &[u8],
+    bounds: &[usize],
+    step: usize,
+    around: &Around,
+) -> bool
+    requires room { length text.now ≤ 65536 }
+    requires around { IsAroundPart scramble.now text.now bounds.now step (step + 1) around.now }
+    ensures { result ≡ solves_repeated (Ok scramble.now) text.now bounds.now step }
+{
+    let bare = corners_of_bare(text, bounds, step, around);
+    if may_so_often(around, &bare, false) && solves_so_often(scramble, text, bounds, step, false) {
+        return true;
+    }
+    may_so_often(around, &bare, true) && solves_so_often(scramble, text, bounds, step, true)
+}
+
+/// The first step that solves a scramble if it is made twice or three times in its place, without its brackets.
+pub fn repeated_step(
+    scramble: &Niss,
+    text: &[u8],
+    bounds: &[usize],
+    corners: &AttemptCorners,
+) -> Option<usize>
+    requires room { length text.now ≤ 65536 }
+    requires corners { IsAttempt corners.now scramble.now text.now bounds.now }
+    ensures { IsFirstStep (number_of_steps bounds.now) (solves_repeated (Ok scramble.now) text.now bounds.now) result }
+{
+    let mut before = Around::begin(corners);
+    for step in 0..bounds.len() - 1 {
+        let around = before.longer(step);
+        if solves_repeated(scramble, text, bounds, step, &around) {
+            return Some(step);
+        }
+        before = around.passed();
+    }
+    None
+}
