@@ -9,12 +9,10 @@ if missing python3; then skips_all "there is no python3 here, so the wrong bodie
 copy=$room/copy
 bodies=$copy/tests/wrong-bodies
 
-copied() { # a copy of what the tool reads
+copied() { # a copy of what the tool reads for one crate
     rm -rf "$copy"
-    mkdir -p "$copy/tests" && cp -R tools crates.txt "$copy" && cp -R tests/wrong-bodies "$copy/tests" || return
-    for part in crates/*/{src,proofs}; do
-        [ ! -d "$part" ] || { mkdir -p "$copy/${part%/*}" && cp -R "$part" "${copy:?}/${part%/*}"; } || return
-    done
+    mkdir -p "$copy/tests" "$copy/crates/niss_moves" && cp -R tools crates.txt "$copy" && cp -R tests/wrong-bodies "$copy/tests" &&
+        cp -R crates/niss_moves/{src,proofs} "$copy/crates/niss_moves"
 }
 says() { # MESSAGE COMMAND..: the tool fails and says this, once the command was run beside the bodies of the copy
     copied && (cd "$bodies" && "${@:2}") || return
