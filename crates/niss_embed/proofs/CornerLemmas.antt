@@ -1,5 +1,5 @@
 -- Where moves bring corners: by one move, by moves in a row, by a rotation; and lines of which it is known.
-use Rattle.std.proofs.Common.{◌≡◌, ◌∙◌, ℕ, ◌+◌, ◌*◌, ◌%◌, ◌<◌, ◌==◌, true, List, [], ◌∷◌, ◌++◌, length, get_or, refl, sym, ap, subst, arith}
+use Rattle.std.proofs.Common.{◌≡◌, ◌∙◌, ℕ, zero, suc, ◌+◌, ◌*◌, ◌%◌, ◌<◌, ◌==◌, true, List, [], ◌∷◌, ◌++◌, length, get_or, refl, sym, ap, subst, arith}
 use Rattle.std.specs.Prelude.{slice_index, bit_xor, Option, None, Some, take}
 use Rattle.std.proofs.lemmas.Grind.{take_at_read}
 use Rattle.niss_moves.specs.Effects.{effect, moved_by, inverse, inverse_token}
@@ -153,6 +153,28 @@ neighbours_stay to s b w =
       ap is_one_bit (pair_apart to s r (facelet D 7) (facelet U 1) b w.1 refl refl) ∙ h.1.0,
       ap is_one_bit (pair_apart to s r (facelet D 7) (facelet D 1) b w.1 refl refl) ∙ h.1.1,
     )
+
+-- by moves and then others
+abbrev both_to : (to next : List ℕ) → List ℕ
+both_to to next =
+    slice_index next (slice_index to 0 % 8) ∷ slice_index next (slice_index to 1 % 8) ∷ slice_index next (slice_index to 2 % 8)
+    ∷ slice_index next (slice_index to 3 % 8) ∷ slice_index next (slice_index to 4 % 8) ∷ slice_index next (slice_index to 5 % 8)
+    ∷ slice_index next (slice_index to 6 % 8) ∷ slice_index next (slice_index to 7 % 8) ∷ []
+
+both_is : (to next : List ℕ) (k : ℕ) → k < 8 → slice_index (both_to to next) k ≡ slice_index next (slice_index to k % 8)
+both_is to next zero l = refl
+both_is to next (suc zero) l = refl
+both_is to next (suc (suc zero)) l = refl
+both_is to next (suc (suc (suc zero))) l = refl
+both_is to next (suc (suc (suc (suc zero)))) l = refl
+both_is to next (suc (suc (suc (suc (suc zero))))) l = refl
+both_is to next (suc (suc (suc (suc (suc (suc zero)))))) l = refl
+both_is to next (suc (suc (suc (suc (suc (suc (suc zero))))))) l = refl
+both_is to next (suc (suc (suc (suc (suc (suc (suc (suc k)))))))) l = absurd (omega (arith, l))
+
+pub two_apart : (to next : List ℕ) (s t : List Token) → Brings to s → Brings next t → IsRotated (s ++ t) →
+    bit_xor (slice_index next (slice_index to 0 % 8)) (slice_index next (slice_index to 7 % 8)) ≡ 7
+two_apart to next s t a b w = (opposites_stay (both_to to next) (s ++ t) (by_both to next (both_to to next) s t (both_is to next) a b) w).0
 
 pub is_seven : (n : ℕ) → n ≡ 7 → (n == 7) ≡ true
 is_seven n e = ap (λ k. k == 7) e

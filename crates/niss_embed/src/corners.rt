@@ -94,6 +94,16 @@ impl Corners {
         Corners { to }
     }
 
+    /// Whether one corner and its opposite come to opposite places by these moves and then others. It is soon told, and
+    /// mostly enough.
+    pub fn two_stay(&self, next: &Corners) -> bool
+        ensures { (s t : List Token) → Brings self.now.to s → Brings next.now.to t → IsRotated (s ++ t) → IsTrue result }
+    {
+        let one = next.to[(self.to[0] % 8) as usize];
+        let other = next.to[(self.to[7] % 8) as usize];
+        one ^ other == 7
+    }
+
     /// By moves.
     #[inline(never)]
     pub fn after(tokens: &[Token]) -> Corners

@@ -367,10 +367,10 @@ impl PartAnswer {
     }
 }
 
-/// Whether a part of the first eight steps of an attempt solves its scramble, and which: the first in order of `IsBefore`.
-/// Else whether all do without their brackets, or with some in brackets of their own: those with the lowest number. Steps
-/// stand a line each. What has a fault doesn't solve, and nothing does if the scramble has one. The answer says `Stopped`
-/// if the scramble or these steps have too many bytes.
+/// Whether a part of the first steps of an attempt solves its scramble, and which: the first in order of `IsBefore`. Else
+/// whether all do without their brackets; with some in brackets of their own, those with the lowest number; or with one
+/// made twice or three times, the first. Steps stand a line each. What has a fault doesn't solve, and nothing does if the
+/// scramble has one. The answer says `Stopped` if the scramble or these steps have too many bytes.
 pub fn solving_part(scramble: &[u8], steps: &[u8]) -> PartAnswer
     ensures { TellsPart scramble.now steps.now result }
 {

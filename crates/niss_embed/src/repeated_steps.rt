@@ -37,6 +37,7 @@ fn feed_repeated(reader: &mut LineReader, before: &[u8], step: &[u8], after: &[u
 }
 
 /// Whether all steps solve a scramble if one is made so often.
+#[inline(never)]
 fn solves_so_often(
     scramble: &Niss,
     text: &[u8],
@@ -78,6 +79,7 @@ fn corners_of_bare(
 }
 
 /// Whether they may, by what they do to the corners. Nothing is known of a step that isn't a line by itself.
+#[inline(never)]
 fn may_so_often(around: &Around, bare: &Option<StepCorners>, thrice: bool) -> bool
     ensures { (scramble : Moves) (text bounds : List ℕ) (step : ℕ) → IsAroundPart scramble text bounds step (step + 1) around.now →
         IfSome bare.now (Reads (bare_step text bounds step)) → result ≡ false → solves_so_often (Ok scramble) text bounds step thrice ≡ false }

@@ -32,6 +32,7 @@ pub struct StepCorners {
 
 impl StepCorners {
     /// No bytes do nothing.
+    #[inline(never)]
     pub fn nothing() -> StepCorners
         ensures { Reads [] result }
     {
@@ -168,7 +169,7 @@ fn may_solve(scramble: &Corners, line: &Corners) -> bool
     line_is_read();
     one_reading();
     rotated_is_tested();
-    scramble.then(line).may_be_rotated()
+    scramble.two_stay(line) && scramble.then(line).may_be_rotated()
 }
 
 /// What a scramble and the steps of an attempt do to the corners.
@@ -205,6 +206,7 @@ impl AttemptCorners {
     }
 
     /// Whether a line whose moves bring corners so may solve the scramble.
+    #[inline(never)]
     pub fn may_solve(&self, line: &Corners) -> bool
         ensures { (scramble : Moves) (bytes : List ℕ) → Brings self.now.scramble.to (joined_moves scramble) →
             (self.now.are_lines ≡ true → IsTail bytes line.now.to) → result ≡ false → solves_line (Ok scramble) (read_line bytes) ≡ false }
@@ -224,6 +226,7 @@ pub struct Around<'a> {
 
 impl<'a> Around<'a> {
     /// No steps, before all.
+    #[inline(never)]
     pub fn begin(attempt: &'a AttemptCorners) -> Around<'a>
         ensures { (scramble : Moves) (text bounds : List ℕ) → IsAttempt attempt.now scramble text bounds → IsAroundPart scramble text bounds 0 0 result }
     {
@@ -250,6 +253,7 @@ impl<'a> Around<'a> {
     }
 
     /// No steps, after these.
+    #[inline(never)]
     pub fn passed(&self) -> Around<'a>
         ensures { (scramble : Moves) (text bounds : List ℕ) (first behind : ℕ) → IsAroundPart scramble text bounds first behind self.now →
             IsAroundPart scramble text bounds behind behind result }
@@ -285,6 +289,7 @@ impl<'a> Around<'a> {
     }
 
     /// Whether all steps may solve the scramble if their own one does this without its brackets, and is made so often.
+    #[inline(never)]
     pub fn may_repeat(&self, bare: &StepCorners, thrice: bool) -> bool
         ensures { (scramble : Moves) (text bounds : List ℕ) (step : ℕ) → IsAroundPart scramble text bounds step (step + 1) self.now →
             Reads (bare_step text bounds step) bare.now → result ≡ false → solves_so_often (Ok scramble) text bounds step thrice ≡ false }
