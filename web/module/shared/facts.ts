@@ -8,9 +8,7 @@ export const AXES = Object.freeze(["fb", "rl", "ud"] as const);
 export const EDGE_PLACES = Object.freeze([
   "UR", "UF", "UL", "UB", "DR", "DF", "DL", "DB", "FR", "FL", "BL", "BR",
 ] as const);
-export const CORNER_PLACES = Object.freeze([
-  "URF", "UFL", "ULB", "UBR", "DFR", "DLF", "DBL", "DRB",
-] as const);
+export const CORNER_PLACES = Object.freeze(["URF", "UFL", "ULB", "UBR", "DFR", "DLF", "DBL", "DRB"] as const);
 
 /** The forms of moves that the WCA's notation hasn't: form i is bit i of the module's mask. */
 export const FORMS = ["slices", "lower_case", "brackets", "apostrophe", "half_prime"] as const;
