@@ -89,6 +89,7 @@ export async function findAll(finders: Calls[], question: Question, tell: (progr
   const tried = ORIENTATIONS.map(() => 0);
   let done = 0;
   const told = () => tell({ tried: tried.reduce((sum, each) => sum + each), done, all: axes.length });
+  told();
   const each = await Promise.all(axes.map(async (axis) => {
     const found = await findOnAxis(finders, axis, question, (count) => {
       tried[axis] = count;
