@@ -205,11 +205,7 @@ export class Page {
     this.#cube = null;
     this.#readiness.stop();
     this.#calls.drop();
-    const asked = cubeWithOffers(this.#calls, { text: scramble, parts }, (cube) => {
-      if (turn !== this.#turn || "unread" in cube || isBare(this.#state)) return;
-      // the best are looked for while the steps are counted and shown
-      this.#best.foresee({ scramble: cube.read.line, parts, reached: lastOf(cube.walk.reached), slack: 0 });
-    });
+    const asked = cubeWithOffers(this.#calls, { text: scramble, parts });
     // what is wrong is said where it is waited for
     asked.catch(() => {});
     document.title = titleOfPage(this.#state);
@@ -244,6 +240,9 @@ export class Page {
     this.#scramble.judge(fault, "read" in cube ? cube.read : null);
     showBeginning(this.#state);
     if ("unread" in cube) return setUsable(false);
+    const [{ parts }, reached] = [this.#state, lastOf(cube.walk.reached)];
+    // the best are looked for while all else is shown
+    if (!isBare(this.#state)) this.#best.foresee({ scramble: cube.read.line, parts, reached, slack: 0 });
     const shown = this.#showCube(cube, isAtTop);
     const steps = await offers;
     if (turn !== this.#turn) return;

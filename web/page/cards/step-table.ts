@@ -26,14 +26,13 @@ export const caseOfStep = ({ badEdges, case: cases }: Facts, { axis, needs }: Of
 const SOON = 50;
 
 /** The cube, and the steps that may follow, each with its counts on both sides: by one question, so that none waits for
- * the page. They are waited for a moment, since what is shown by itself is laid out and painted by itself.
- * @param told the cube as soon as it is known */
+ * the page. They are waited for a moment, since what is shown by itself is laid out and painted by itself. */
 export async function cubeWithOffers(
-  calls: Calls, typed: { text: string; parts: Part[] }, told: (cube: Examined | Unexamined) => void,
+  calls: Calls, typed: { text: string; parts: Part[] },
 ): Promise<{ cube: Examined | Unexamined; offers: Promise<Offer[]>; isWhole: boolean }> {
   let offers: Promise<Offer[]> = Promise.resolve([]);
   const cube = new Promise<Examined | Unexamined>((settle, refuse) => {
-    offers = calls.ask("examine", typed, (first) => [settle, told].forEach((take) => take(first)));
+    offers = calls.ask("examine", typed, settle);
     offers.catch(refuse);
   });
   // what is wrong is said where it is waited for
@@ -49,8 +48,9 @@ const areReductions = ([{ step }]: Offer[]) => step.needs !== null;
 const keepsReached = (offers: Offer[], reached: string[]) =>
   reached.length === 0 || (areReductions(offers) && !isReduced(reached));
 
-const leastOf = (offers: Offer[]) => Math.min(...offers.flatMap(({ normal, inverse, both }) =>
-  [normal.length, inverse.length, both].map((length) => length ?? Infinity)));
+const leastOf = (offers: Offer[]) =>
+  Math.min(...offers.flatMap(({ normal, inverse, both }) =>
+    [normal.length, inverse.length, both].map((length) => length ?? Infinity)));
 
 /** The least length over both sides, if that is less than on each alone. @param least of all that may follow */
 function overBoth({ step, both }: Offer, least: number | null) {
