@@ -150,7 +150,7 @@ typedef struct nissy_moves_part {
 nissy_plain_answer nissy_text_moves(const uint8_t *text, size_t text_length, const nissy_text_line *lines, size_t count, uint8_t which, uint8_t *out,
                                     size_t out_room, uint64_t *places, size_t places_room, nissy_moves_part *parts, size_t parts_room);
 
-/* The most bytes of the first 24 steps, in which a part is looked for. */
+/* The most bytes of the first twelve steps, in which a part is looked for. */
 #define NISSY_MOST_STEPS 65536
 
 /* What is to be done with some steps of an attempt, one after another, so that it solves. */
@@ -166,7 +166,7 @@ enum nissy_part {
 
 /* What nissy_solving_part returns. */
 typedef struct nissy_part_answer {
-    uint8_t status; /* NISSY_DONE; NISSY_STOPPED: the scramble has more than NISSY_MOST_INPUT bytes, or the first 24 steps more than
+    uint8_t status; /* NISSY_DONE; NISSY_STOPPED: the scramble has more than NISSY_MOST_INPUT bytes, or the first twelve steps more than
                      * NISSY_MOST_STEPS */
     uint8_t how;    /* one of nissy_part */
     uint8_t first;  /* the first of these steps, from 0 */
@@ -175,7 +175,7 @@ typedef struct nissy_part_answer {
 } nissy_part_answer;
 
 /* Whether a part of an attempt solves its scramble: who wrote more than the solution, or the side of a step not at all, may have meant that. The
- * steps are those of one text, a line each, such as nissy_text_moves writes them; the first 24 are looked at. Told is the first part that solves,
+ * steps are those of one text, a line each, such as nissy_text_moves writes them; the first twelve are looked at. Told is the first part that solves,
  * by its first step, then its last one, then in the order of nissy_part. Then come all steps without their brackets, then all of them with some
  * of the first eight in brackets: of several such sets that with the least sum, in which the first step counts 1, the next one 2, then 4; and last
  * all with one of them made several times, the first such. What can't be read, or has no moves, doesn't solve. It takes no memory. */

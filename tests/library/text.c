@@ -299,11 +299,11 @@ static void parts_of_steps(void) {
     part_is("R U F", "", NISSY_NO_PART, 0, 0);
     part_is("R U Q", "F' U' R'", NISSY_NO_PART, 0, 0);
     part_is("", "R\n\nL", NISSY_NO_PART, 0, 0);
-    /* twenty-four steps are looked at, and no more: four turns of L do nothing */
+    /* twelve steps are looked at, and no more: four turns of L do nothing */
 #define FOUR "L\nL\nL\nL\n"
     part_is("R", "D\nF\nU\nB\nL\nD\nF\nR'", NISSY_PART_LEFT_OUT, 0, 6);
-    part_is("R", "D\nL\nL\n" FOUR FOUR FOUR FOUR FOUR "R'", NISSY_PART_LEFT_OUT, 0, 2);
-    part_is("R", "D\nL\nL\nL\n" FOUR FOUR FOUR FOUR FOUR "R'", NISSY_NO_PART, 0, 0);
+    part_is("R", "D\nL\nL\n" FOUR FOUR "R'", NISSY_PART_LEFT_OUT, 0, 2);
+    part_is("R", "D\nL\nL\nL\n" FOUR FOUR "R'", NISSY_NO_PART, 0, 0);
     /* the ninth step belongs to the line, but is in no set */
     part_is("R U F D' B2 L2 U2 R2", "R2\nR\nU2\nU\nL2\nF\nB2\nD\nD2", NISSY_PART_EACH_IN_BRACKETS, 1, 7);
     part_is("R F U2 D2 F2 B2 L2 U2 R2", "R2\nU2\nL2\nB2\nF2\nR\nD2\nU2\nF", NISSY_NO_PART, 0, 0);
@@ -314,10 +314,10 @@ static void parts_of_steps(void) {
     const nissy_part_answer many = nissy_solving_part((const uint8_t *)"R", 1, steps.bytes, NISSY_MOST_STEPS + 1);
     holds(few.status == NISSY_DONE && few.how == NISSY_PART_ALONE, "as many bytes as may be", "long steps");
     holds(many.status == NISSY_STOPPED && many.how == NISSY_NO_PART, "one byte more", "long steps");
-    memset(steps.bytes + 8, '\n', 23);
+    memset(steps.bytes + 8, '\n', 11);
     const nissy_part_answer one_more = nissy_solving_part((const uint8_t *)"R", 1, steps.bytes, steps.size);
     holds(one_more.status == NISSY_STOPPED && one_more.how == NISSY_NO_PART, "many bytes in the last step", "long steps");
-    steps.bytes[8 + 23] = '\n';
+    steps.bytes[8 + 11] = '\n';
     const nissy_part_answer all = nissy_solving_part((const uint8_t *)"R", 1, steps.bytes, steps.size);
     holds(all.status == NISSY_DONE && all.how == NISSY_PART_ALONE, "many bytes after the steps", "long steps");
     let_go(steps);

@@ -60,9 +60,9 @@ last_few n some few = (are_ends n some few).4
 
 -- The steps after the first one of a set stand as in the set before it.
 abbrev stays : ℕ → Fact
-stays n = When (nat_lt 0 n) (Numbers 25 λ k. When (nat_lt (first_in (of n)) k) (Equal (bit_at (n - 1) k) (bit_at n k)))
+stays n = When (nat_lt 0 n) (Numbers 13 λ k. When (nat_lt (first_in (of n)) k) (Equal (bit_at (n - 1) k) (bit_at n k)))
 
-later_stay : (n k : ℕ) → 0 < n → n < 256 → k < 25 → first_in (of n) < k → bit_at (n - 1) k ≡ bit_at n k
+later_stay : (n k : ℕ) → 0 < n → n < 256 → k < 13 → first_in (of n) < k → bit_at (n - 1) k ≡ bit_at n k
 later_stay n k some few low high = holds (Numbers 256 stays) refl n few (lt-ltb 0 n some) k low (lt-ltb (first_in (of n)) k high)
 
 same_lines : (f g : ℕ → List ℕ) (a n : ℕ) → ((k : ℕ) → a ≤ k → k < a + n → f k ≡ g k) → flat_map f (range_with_len a n) ≡ flat_map g (range_with_len a n)
@@ -72,7 +72,7 @@ same_lines f g a (suc n) same =
     let rest = same_lines f g (a + 1) n (λ k low high. same k (omega (arith, low)) (omega (arith, high))) in
     λ i. first i ++ rest i
 
-pub tails_kept : (text bounds : List ℕ) (tails : List Corners) (n : ℕ) → 0 < n → n < 256 → length bounds ≤ 25 → AreTails text bounds (of (n - 1)) 0 tails →
+pub tails_kept : (text bounds : List ℕ) (tails : List Corners) (n : ℕ) → 0 < n → n < 256 → length bounds ≤ 13 → AreTails text bounds (of (n - 1)) 0 tails →
     AreTails text bounds (of n) (first_in (of n) + 1) tails
 tails_kept text bounds tails n some few nine are step none from within =
     let so : (k : ℕ) → step ≤ k → k < step + (length bounds - 1 - step) → step_with text bounds (of (n - 1)) k ≡ step_with text bounds (of n) k =

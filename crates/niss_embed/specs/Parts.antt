@@ -22,7 +22,7 @@ use Rattle.niss_embed.specs.declared.step_sets.StepSet.{StepSet}
 
 -- how many steps are looked at, of how many of them sets are tried, and how many bytes they have at most
 abbrev pub most_steps : ℕ
-most_steps = 24
+most_steps = 12
 
 abbrev pub most_in_sets : ℕ
 most_in_sets = 8

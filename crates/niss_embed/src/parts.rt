@@ -276,7 +276,7 @@ fn first_part(
 
 /// What is found in steps.
 fn found_in(scramble: &Niss, text: &[u8], bounds: &[usize]) -> Found
-    requires some { (0 < length bounds.now) × (length bounds.now ≤ 25) }
+    requires some { (0 < length bounds.now) × (length bounds.now ≤ 13) }
     requires bounds { AreBounds bounds.now }
     requires room { length text.now ≤ 65536 }
     ensures { IsFound (number_of_steps bounds.now) (solves_part (Ok scramble.now) text.now bounds.now)
@@ -300,7 +300,7 @@ fn found_in(scramble: &Niss, text: &[u8], bounds: &[usize]) -> Found
 
 /// What is found in steps after a scramble: nothing if that has a fault.
 fn found_after(scramble: &[u8], text: &[u8], bounds: &[usize]) -> Found
-    requires some { (0 < length bounds.now) × (length bounds.now ≤ 25) }
+    requires some { (0 < length bounds.now) × (length bounds.now ≤ 13) }
     requires bounds { AreBounds bounds.now }
     requires room { (length scramble.now ≤ most_bytes) × (length text.now ≤ 65536) }
     ensures { IsFound (number_of_steps bounds.now) (solves_part (read_line scramble.now) text.now bounds.now)
@@ -330,7 +330,7 @@ impl PartAnswer {
 
     /// The answer to steps that begin and end at these places.
     fn of(found: Found, bounds: &[usize]) -> PartAnswer
-        requires few { (0 < length bounds.now) × (length bounds.now ≤ 25) }
+        requires few { (0 < length bounds.now) × (length bounds.now ≤ 13) }
         requires part { IsWithin (number_of_steps bounds.now) found }
         ensures { result ≡ answer_of bounds.now found }
     {

@@ -6,10 +6,10 @@ ghost use Rattle.niss_embed.specs.Parts.{bounds_of, is_end};
 use arrayvec::ArrayVec;
 
 /// How many steps of an attempt are looked at.
-pub const MOST_STEPS: usize = 24;
+pub const MOST_STEPS: usize = 12;
 
 /// Where the first of them begins, and where each ends.
-pub const MOST_BOUNDS: usize = 25;
+pub const MOST_BOUNDS: usize = 13;
 
 /// Whether a step ends before a place of a text.
 fn is_end(text: &[u8], place: usize) -> bool
@@ -22,7 +22,7 @@ fn is_end(text: &[u8], place: usize) -> bool
 /// The place where the first step begins, and those where the first ones end.
 pub fn bounds_of(text: &[u8]) -> ArrayVec<usize, MOST_BOUNDS>
     ensures are { result.items ≡ bounds_of text.now }
-    ensures few { (0 < length result.items) × (length result.items ≤ 25) }
+    ensures few { (0 < length result.items) × (length result.items ≤ 13) }
     ensures bounds { AreBounds result.items }
 {
     let mut bounds = ArrayVec::new();
@@ -38,8 +38,8 @@ pub fn bounds_of(text: &[u8]) -> ArrayVec<usize, MOST_BOUNDS>
 
 /// Adds a place, if there is room.
 fn push_bound(bounds: &mut ArrayVec<usize, MOST_BOUNDS>, place: usize)
-    ensures room { length bounds.old.items < 25 → bounds.new.items ≡ bounds.old.items ++ place ∷ [] }
-    ensures full { 25 ≤ length bounds.old.items → bounds.new.items ≡ bounds.old.items }
+    ensures room { length bounds.old.items < 13 → bounds.new.items ≡ bounds.old.items ++ place ∷ [] }
+    ensures full { 13 ≤ length bounds.old.items → bounds.new.items ≡ bounds.old.items }
 {
     if !bounds.is_full() {
         bounds.push(place);

@@ -129,7 +129,7 @@ pub fn corners_of_step(step: &[u8], brackets: Brackets) -> Option<StepCorners>
 /// Adds what each step does, and says whether each is a line by itself.
 fn are_lines(text: &[u8], bounds: &[usize], steps: &mut ArrayVec<StepCorners, MOST_STEPS>) -> bool
     requires room { length text.now ≤ 65536 }
-    requires few { (0 < length bounds.now) × (length bounds.now ≤ 25) }
+    requires few { (0 < length bounds.now) × (length bounds.now ≤ 13) }
     requires bounds { AreBounds bounds.now }
     requires none { steps.old.items ≡ [] }
     ensures number { length bounds.now ≡ length steps.new.items + 1 }
@@ -151,7 +151,7 @@ fn are_lines(text: &[u8], bounds: &[usize], steps: &mut ArrayVec<StepCorners, MO
 /// Works out anew what the steps from each one on do, of the first so many, if some stand in brackets.
 #[inline(never)]
 pub fn renew(steps: &[StepCorners], tails: &mut [Corners; MOST_BOUNDS], set: StepSet, count: usize)
-    requires { (count ≤ length steps.now) × (length steps.now ≤ 24) }
+    requires { (count ≤ length steps.now) × (length steps.now ≤ 12) }
     ensures { (text bounds : List ℕ) → AreSteps text bounds steps.now → AreTails text bounds set count tails.old →
         AreTails text bounds set 0 tails.new }
 {
@@ -187,7 +187,7 @@ impl AttemptCorners {
     /// Of steps that begin and end at these places.
     pub fn of(scramble: &Niss, text: &[u8], bounds: &[usize]) -> AttemptCorners
         requires room { length text.now ≤ 65536 }
-        requires few { (0 < length bounds.now) × (length bounds.now ≤ 25) }
+        requires few { (0 < length bounds.now) × (length bounds.now ≤ 13) }
         requires bounds { AreBounds bounds.now }
         ensures { IsAttempt result scramble.now text.now bounds.now }
     {

@@ -70,7 +70,7 @@ pub fn feed_step(reader: &mut LineReader, step: &[u8], in_brackets: bool)
 /// Has a reader read all steps, of which some stand in brackets.
 fn feed_steps(reader: &mut LineReader, text: &[u8], bounds: &[usize], set: StepSet)
     requires new { (reader.old.fed ≡ 0) × IsFed reader.old [] }
-    requires some { (0 < length bounds.now) × (length bounds.now ≤ 25) }
+    requires some { (0 < length bounds.now) × (length bounds.now ≤ 13) }
     requires room { length text.now ≤ 65536 }
     ensures { IsFed reader.new (line_with text.now bounds.now set) }
 {
@@ -82,7 +82,7 @@ fn feed_steps(reader: &mut LineReader, text: &[u8], bounds: &[usize], set: StepS
 
 /// Whether all steps solve a scramble if some of them stand in brackets.
 fn solves_with(scramble: &Niss, text: &[u8], bounds: &[usize], set: StepSet) -> bool
-    requires some { (0 < length bounds.now) × (length bounds.now ≤ 25) }
+    requires some { (0 < length bounds.now) × (length bounds.now ≤ 13) }
     requires room { length text.now ≤ 65536 }
     ensures { result ≡ solves_with (Ok scramble.now) text.now bounds.now set }
 {
@@ -108,7 +108,7 @@ pub fn least_set(
     bounds: &[usize],
     corners: &AttemptCorners,
 ) -> Option<StepSet>
-    requires some { (0 < length bounds.now) × (length bounds.now ≤ 25) }
+    requires some { (0 < length bounds.now) × (length bounds.now ≤ 13) }
     requires room { length text.now ≤ 65536 }
     requires corners { IsAttempt corners.now scramble.now text.now bounds.now }
     ensures { IsLeast (number_of_steps bounds.now) (solves_with (Ok scramble.now) text.now bounds.now) result }

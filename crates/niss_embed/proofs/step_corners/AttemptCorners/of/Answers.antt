@@ -11,8 +11,8 @@ returns c =
     let text : List ℕ = c.args.text.now in
     let bounds : List ℕ = c.args.bounds.now in
     let one : Corners = record { to = replicate 8 0 } in
-    let nowhere : List Corners = replicate 25 one in
-    let long : length nowhere ≡ 25 = length-replicate 25 one in
+    let nowhere : List Corners = replicate 13 one in
+    let long : length nowhere ≡ 13 = length-replicate 13 one in
     let number = c.are_lines-are_lines.ensures.number in
     let count : length bounds - 1 ≡ c.len-count.result = omega (arith, number, c.len-count.ensures.value) in
     record {
