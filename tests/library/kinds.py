@@ -46,7 +46,7 @@ FREE_STEPS = "R L2 U F // EO\nR2 U2 D L' U F' U2 D2 // DR\nB2 U2 F' U F R' D2 U2
 OTHER = "F2 U2 L D F U' R2 B L R2 U2 B' D' R F L B2 D F' B' U2 D F2"
 OTHER_STEPS = "F2 D' U2 B // EO\nF D' B2 L' F' R' D B // DR\nU2 R2 L' B' R2 U F' D' L' U2 F2 // finish"
 # how many are read right, of the table and of those that words make: what is stays so
-LEAST_RIGHT, LEAST_RIGHT_BY_WORDS = 344, 117
+LEAST_RIGHT, LEAST_RIGHT_BY_WORDS = 352, 117
 WORDS = "F2L LL xD BLD LUL FML LS ELL SB Dry Bu DR FR EO".split()
 
 
