@@ -50,7 +50,7 @@ enum nissy_doubt {
     NISSY_SMALL_LETTERS = 5,     /* a scramble has a turn in a small letter, or a step has no others */
     NISSY_COMMENT = 6,           /* three moves stand one after another in a comment of a step, or a letter before one, as in "R U layer" */
     NISSY_REPETITION = 7,        /* moves are said to be made several times, as in "(R U)x2", at the end of a step "R U x2", or in a comment */
-    NISSY_INSERTION = 8          /* a step has a mark at which others belong, such as "[1]" between moves or "*" after them, or tells what belongs
+    NISSY_INSERTION = 8,         /* a step has a mark at which others belong, such as "[1]" between moves or "*" after them, or tells what belongs
                                   * there, as "* = R U"; or it is said that moves are inserted */
     /* 9, 10 and 13 are told of checks */
     NISSY_STEP_OR_SCRAMBLE = 11, /* a line after the scramble may be of it, or of another one. Of a check this counts also if it is solved */

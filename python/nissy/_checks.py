@@ -52,8 +52,8 @@ class AttemptCheck(NamedTuple):
     forms: Tuple[FormInText, ...]
     """Where the solution has its forms; none if there is no check."""
     doubt: Optional[AttemptDoubt] = None
-    """What makes one doubt that the attempt is read as it was meant; None if it has a fault, and mostly if it is solved:
-    then only "step or scramble" and "another attempt" count."""
+    """What makes one doubt that the attempt is read as it was meant; None if it has a fault, and if it is solved but
+    for "step or scramble" and "another attempt"."""
 
     def as_dict(self) -> Dict[str, Any]:
         """What is said of it, as json.dumps takes it, with the `name` of the attempt, and its scramble and solution as

@@ -167,7 +167,12 @@ def doubts(tally: Tally) -> None:
         (told,) = [it.doubt for it in nissy.check_attempts(text)]
         tally.equal(f"the doubt of {text!r}", told and (told.reason, told.place.line, told.place.column), wanted)
     undoubted = ("R U F\n\nF' U' R'", "R U F\n\nF' U' R", "R'U'F\n\nF'U'R", "R U F", "R U F\n\nf' u' R'")
-    for text in (*undoubted, "R U F\n\nF', U', R", "R U F\n\nF' U' R // on normal", "1. R U F\n\nSolutions:\n1. F' U' R'"):
+    for text in (
+        *undoubted,
+        "R U F\n\nF', U', R",
+        "R U F\n\nF' U' R // on normal",
+        "1. R U F\n\nSolutions:\n1. F' U' R'",
+    ):
         tally.equal(f"no doubt of {text!r}", [it.doubt for it in nissy.check_attempts(text)], [None])
 
 

@@ -34,7 +34,8 @@ static int is_line_of(guarded text, const nissy_text_line *line, uint64_t begin)
     while (at < line->end && !ends_line(text.bytes[at])) at++;
     return line->begin == begin && at == line->end && line->begin <= line->head_end && line->head_end <= line->label_begin &&
            line->label_begin <= line->label_end && line->label_end <= line->moves && line->moves <= line->comment && line->comment <= line->end &&
-           line->doubt_at >= line->begin && line->doubt_at <= line->end && line->kind <= NISSY_NOTE_LINE && line->doubt <= NISSY_INSERTION &&
+           line->doubt_at >= line->begin && line->doubt_at <= line->end && line->kind <= NISSY_NOTE_LINE &&
+           (line->doubt <= NISSY_INSERTION || line->doubt == NISSY_STEP_OR_SCRAMBLE || line->doubt == NISSY_SIGNS) &&
            (line->doubt != NISSY_NO_DOUBT || line->doubt_at == line->end);
 }
 
