@@ -240,9 +240,6 @@ export class Page {
     this.#scramble.judge(fault, "read" in cube ? cube.read : null);
     showBeginning(this.#state);
     if ("unread" in cube) return setUsable(false);
-    const [{ parts }, reached] = [this.#state, lastOf(cube.walk.reached)];
-    // the best are looked for while all else is shown
-    if (!isBare(this.#state)) this.#best.foresee({ scramble: cube.read.line, parts, reached, slack: 0 });
     const shown = this.#showCube(cube, isAtTop);
     const steps = await offers;
     if (turn !== this.#turn) return;

@@ -5,7 +5,7 @@ import { thrownError, present } from "../shared/certain.js";
 import { ShownCounts } from "./counts.js";
 import { announce, announceLater, counted, grouped, part, setBusy, tell } from "../shared/element.js";
 import { Filters, casesOfBest, filtersOfBest, offerCases, offerMoves } from "./filters.js";
-import { KnownSearches, findAll, joiningRows, type Found, type Progress, type Question, type Row } from "./finder.js";
+import { KnownSearches, findAll, joiningRows, type Progress, type Question, type Row } from "./finder.js";
 import { FURTHEST, FurtherSearch, type Further } from "./further-search.js";
 import { GREATEST_SLACK } from "../state/limits.js";
 import { addRows, roveWithin, showRows, takeNamed } from "../shared/rows.js";
@@ -32,8 +32,6 @@ export class BestContinuations {
   #kinds = filtersOfBest();
   #filters = new Filters("best", part("best-note"), this.#kinds, () => this.#filtered());
   #question: Question | null = null;
-  /** What is looked for before the cube is shown, if it is new. */
-  #early: Promise<Found> | null = null;
   /** What the rows are shown of. */
   #progress: Further | null = null;
   /** Longer ones that were looked at since, if there are some: their rows wait until they are asked for. */
@@ -72,17 +70,8 @@ export class BestContinuations {
     part("best-more").addEventListener("click", () => this.#more());
   }
 
-  /** Looks for the best of a cube that is taken next. */
-  foresee(question: Question) {
-    if (isReduced(question.reached) || this.#found.shorter({ ...question, slack: GREATEST_SLACK + 1 })) return;
-    const tell = (progress: Progress) => this.#early === null && this.#looked(progress);
-    this.#early = findAll(this.finders, question, tell);
-    this.#early.catch(() => {});
-  }
-
   /** Takes another cube, or none, and looks for the best of it. */
   reset(cube: CubeOfBest | null) {
-    if (cube === null) this.#early = null;
     this.#stop();
     if (cube?.scramble !== this.#question?.scramble) this.#further.measure.begin();
     this.#question = cube && { ...cube, slack: 0 };
@@ -155,7 +144,7 @@ export class BestContinuations {
   #stop() {
     this.#again = null;
     this.#further.stop();
-    if (this.#early === null) for (const finder of this.finders) finder.stop();
+    for (const finder of this.finders) finder.stop();
   }
 
   #stopOrGoOn() {
@@ -253,9 +242,7 @@ export class BestContinuations {
     part("best-note").textContent = LOOKING_FOR_BEST;
     try {
       for (const slack of known || wanted === 0 ? [wanted] : [0, wanted]) {
-        const asked = this.#early ?? findAll(this.finders, { ...question, slack, isWhole }, tell);
-        this.#early = null;
-        const found: Further = { ...await asked, slack };
+        const found: Further = { ...await findAll(this.finders, { ...question, slack, isWhole }, tell), slack };
         if (!isStill()) return;
         this.#found.keep({ ...question, slack }, found);
         this.#progress = found;
