@@ -26,7 +26,7 @@ enum class doubt_reason {
     repetition = NISSY_REPETITION,
     insertion = NISSY_INSERTION,
     a_part = NISSY_A_PART,                 // of a check: only some of its steps solve the scramble, or its solution with other brackets
-    which_scramble = NISSY_WHICH_SCRAMBLE, // of a check: it isn't seen which of the known scrambles this is a solution of
+    which_scramble = NISSY_WHICH_SCRAMBLE, // of a check: it isn't seen which of the known scrambles this is of, or it solves another
     step_or_scramble = NISSY_STEP_OR_SCRAMBLE,
     signs = NISSY_SIGNS,
     another_attempt = NISSY_ANOTHER_ATTEMPT // of a check: it is solved before a line in which another attempt may begin

@@ -54,7 +54,9 @@ enum nissy_doubt {
                                   * there, as "* = R U"; or it is said that moves are inserted */
     /* 9, 10 and 13 are told of checks */
     NISSY_STEP_OR_SCRAMBLE = 11, /* a line after the scramble may be of it, or of another one. Of a check this counts also if it is solved */
-    NISSY_SIGNS = 12             /* moves may be written by signs that aren't read so: by commas between some of them, wide letters or a link */
+    NISSY_SIGNS = 12             /* moves may be written by signs that aren't read so: by commas between some of them, by letters that look like
+                                  * theirs, such as wide ones, or in a link; or so many have no apostrophe that these may have been lost, or one of
+                                  * so many is a slice, whose letter F or B was taken for */
 };
 
 /* A line of such a text. The places are in bytes of the text, from 0, and don't fall from one to the next, nor from line to line. Its moves
@@ -161,7 +163,8 @@ enum nissy_part {
     NISSY_PART_IN_BRACKETS = 3,      /* they are put in brackets */
     NISSY_PART_WITHOUT_BRACKETS = 4, /* all steps lose their brackets */
     NISSY_PART_EACH_IN_BRACKETS = 5, /* each of these, which may stand apart, is put in brackets of its own */
-    NISSY_PART_REPEATED = 6          /* this one is made twice or three times in its place, without its brackets */
+    NISSY_PART_REPEATED = 6,         /* this one is made twice or three times in its place, without its brackets */
+    NISSY_PART_IN_CAPITALS = 7       /* the small letters of all turns become capitals */
 };
 
 /* What nissy_solving_part returns. */
@@ -175,15 +178,16 @@ typedef struct nissy_part_answer {
 } nissy_part_answer;
 
 /* Whether a part of an attempt solves its scramble: who wrote more than the solution, or the side of a step not at all, may have meant that. The
- * steps are those of one text, a line each, such as nissy_text_moves writes them; the first twelve are looked at. Told is the first part that solves,
- * by its first step, then its last one, then in the order of nissy_part. Then come all steps without their brackets, then all of them with some
- * of the first eight in brackets: of several such sets that with the least sum, in which the first step counts 1, the next one 2, then 4; and last
- * all with one of them made several times, the first such. What can't be read, or has no moves, doesn't solve. It takes no memory. */
+ * steps are those of one text, a line each, such as nissy_text_moves writes them, but that one goes on while a bracket is open; the first twelve are
+ * looked at. Told is the first part that solves, by its first step, then its last one, then in the order of nissy_part. Then come all steps without
+ * their brackets, then all of them with some of the first eight in brackets: of several such sets that with the least sum, in which the first step
+ * counts 1, the next one 2, then 4; then all with one of them made several times, the first such; and last all in capitals. What can't be read, or
+ * has no moves, doesn't solve. It takes no memory. */
 nissy_part_answer nissy_solving_part(const uint8_t *scramble, size_t scramble_length, const uint8_t *steps, size_t steps_length);
 
 /* What makes one doubt a check too. */
 #define NISSY_A_PART 9           /* a part of the steps solves the scramble, as nissy_solving_part tells */
-#define NISSY_WHICH_SCRAMBLE 10  /* it can't be seen which of the known scrambles it is a solution of */
+#define NISSY_WHICH_SCRAMBLE 10  /* it can't be seen which of the known scrambles it is a solution of, or it solves another one */
 #define NISSY_ANOTHER_ATTEMPT 13 /* it is solved already before a line as long as a scramble: another attempt may begin there */
 
 /* The place of what has none in the text. */
@@ -194,15 +198,17 @@ typedef struct nissy_attempt_check {
     uint64_t scramble;   /* which of the known scrambles it is of, from 0, or NISSY_NO_SCRAMBLE */
     uint64_t name_begin; /* where the head of its part stands; both are 0 without one, and of a text without known scrambles */
     uint64_t name_end;
-    uint64_t first_line; /* which of the lines is its first one, from 0 */
-    uint64_t end_line;   /* which is the first after them */
-    uint64_t fault_at;   /* after NISSY_FAULT where it stands in the text; NISSY_NO_PLACE of a known scramble, or if nothing is at fault */
-    uint64_t doubt_at;   /* where the doubt is seen; NISSY_NO_PLACE if there is none */
-    uint8_t doubt;       /* that of its first line that has one, else NISSY_A_PART, NISSY_ANOTHER_ATTEMPT or none. With known scrambles, before these,
-                          * NISSY_WHICH_SCRAMBLE or, as told below, NISSY_ANOTHER_SCRAMBLE */
-    uint8_t doubted;     /* the doubt counts: nothing is at fault, and there is no solution that solves, or it is
-                          * NISSY_STEP_OR_SCRAMBLE or NISSY_ANOTHER_ATTEMPT */
-    uint8_t checked;     /* it has a solution, and it can be seen of which scramble: then `check` says more than a fault */
+    uint64_t first_line;      /* which of the lines is its first one, from 0 */
+    uint64_t end_line;        /* which is the first after them */
+    uint64_t fault_at;        /* after NISSY_FAULT where it stands in the text; NISSY_NO_PLACE of a known scramble, or if nothing is at fault */
+    uint64_t doubt_at;        /* where the doubt is seen; NISSY_NO_PLACE if there is none */
+    uint8_t doubt;            /* that of its first line that has one, but of what is solved NISSY_STEP_OR_SCRAMBLE before others; else NISSY_A_PART,
+                               * NISSY_ANOTHER_ATTEMPT or none. With known scrambles, before these, NISSY_WHICH_SCRAMBLE of what has none or, as told
+                               * below, NISSY_ANOTHER_SCRAMBLE; and after these NISSY_WHICH_SCRAMBLE, if its solution doesn't solve its own one, but
+                               * another of the first 64 */
+    uint8_t doubted;          /* the doubt counts: nothing is at fault, and there is no solution that solves, or it is
+                               * NISSY_STEP_OR_SCRAMBLE or NISSY_ANOTHER_ATTEMPT */
+    uint8_t checked;          /* it has a solution, and it can be seen of which scramble: then `check` says more than a fault */
     nissy_check_answer check; /* what nissy_check says of its scramble and its solution, which is empty if there is none */
     uint8_t unused[4];        /* nothing, so that it has one size on all systems */
 } nissy_attempt_check;

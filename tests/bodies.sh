@@ -66,9 +66,9 @@ holds "old lines that stand several times are shown" says "NOT MADE: $body: this
 holds "a file that is gone is named" says "NOT MADE: $body: the crate has no src/gone.rt" own '/^refused/afile: src/gone.rt
 '
 holds "a name that another body has is told" says "NOT MADE: $body: another body of the crate has this name" \
-    turned 's/^gate: turn_undone_by_itself$/gate: turn_opposite_is_itself/'
+    turned 's/: turn_undone_by_itself$/: turn_opposite_is_itself/'
 holds "a name that a body of another file has is told" says "NOT MADE: $body: another body of the crate has this name" \
-    sed -i 's/^gate: niss_normal_lends_bracketed$/gate: turn_opposite_is_itself/' niss_moves/niss.txt
+    sed -i 's/: niss_normal_lends_bracketed$/: turn_opposite_is_itself/' niss_moves/niss.txt
 file=tests/wrong-bodies/niss_moves/turn.txt
 own="NOT READ: $file: turn_opposite_is_itself"
 holds "a body that doesn't say what it does wrong is named" says "$own: no line says what it does wrong" own '2d'
@@ -86,7 +86,7 @@ holds "new lines without old ones are shown" says "$own: this line doesn't belon
 holds "a comment in new lines is shown" says "$own: a comment hides what follows it" own 's|^+ .*|& // as before|'
 holds "a line of no kind is shown" says "$own: this line doesn't belong where it stands: Face::U" own 's/^+ /+ Face::U =>\n/'
 holds "a line before the first name is shown" says \
-    "NOT READ: $file: a line 'gate: NAME' or 'further: NAME' is to stand before this one: never: turn_opposite_is_itself" turned '1s/gate/never/'
+    "NOT READ: $file: a line 'gate: NAME' or 'further: NAME' is to stand before this one: never: turn_opposite_is_itself" turned '1s/[a-z]*/never/'
 holds "a file of another kind is named" says "NOT READ: tests/wrong-bodies/niss_moves/turn.edit: it is no .txt with the name of a .rt" \
     cp niss_moves/turn.txt niss_moves/turn.edit
 holds "a file of no source is named" says "NOT READ: tests/wrong-bodies/niss_moves/gone.txt: it is no .txt with the name of a .rt" \

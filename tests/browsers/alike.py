@@ -90,23 +90,29 @@ DRAWN = """
     return seen.map((each) => [each.ariaLabel ?? each.caption?.textContent, each.localName === "table" ? "" : each.textContent])"""
 
 
+def waits(window: Window, text: str, address: str) -> None:
+    """Waits until a script answers with true, or stops, with what isn't so and what the page says then."""
+    if not window.until(text):
+        busy = "return [...document.querySelectorAll('[aria-busy=true], .alert:not([hidden])')].map((each) => `${each.id}: ${each.innerText}`)"
+        raise TimeoutError(f"at {address} this doesn't come: {text}; the page shows {window.script(busy)}")
+
+
 def shown(window: Window, page: str, address: str, act: str) -> dict[str, object]:
     """What a window shows of a state, once all is answered: the first is loaded, and the page that is open goes to the others."""
     if window.script(GO % json.dumps(address)):
         window.open(page + address)
         window.script(REFUSED)
         # the page sets its fields once its scripts run, in WebKit after that
-        window.until(DONE)
+        waits(window, DONE, address)
         # so that none of them is further than another
         window.script(UNSEEN)
-    if not window.until(DONE):
-        raise TimeoutError(f"no answer at {address}")
+    waits(window, DONE, address)
     if act != "":
         before = window.script("return location.hash")
         window.script(act)
         if "best-slack" not in act:
-            window.until(f"return location.hash !== {json.dumps(before)}")
-        window.until(DONE)
+            waits(window, f"return location.hash !== {json.dumps(before)}", f"{address} after {act}")
+        waits(window, DONE, f"{address} after {act}")
     nets = [letters_of(window.script(stickers_of(side))) for side in SIDES]
     shows = {"cards": window.script(CARDS), "controls": window.script(CONTROLS), "drawn": window.script(DRAWN)}
     return {**shows, "nets": nets, "refused": window.script("return window.refused")}

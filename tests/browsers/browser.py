@@ -4,12 +4,23 @@ from typing import Any
 
 from selenium.webdriver import Chrome
 
-from chromium import PATIENCE, Tab
+from chromium import Tab
 from net import letters_of, stickers_of
-from tally import Tally
+from tally import Tally, made_again
 
 # longer continuations are looked for by themselves only while the page is seen: for most of what is tried it isn't, so that rows stay
 UNSEEN = 'Object.defineProperty(Document.prototype, "hidden", { configurable: true, get: () => !window.isSeen });'
+# keeps what is said to screen readers, since what is said next takes its place
+ANNOUNCED = """window.announced = [];
+    addEventListener("DOMContentLoaded", () => {
+        const said = (changes) => window.announced.push(...changes.flatMap(({ addedNodes }) => [...addedNodes].map((each) => each.textContent)));
+        const status = document.getElementById("status");
+        if (status) new MutationObserver(said).observe(status, { childList: true });
+    });"""
+# takes what was said up to this from what is kept, whatever was said after it
+HEARD = """const at = window.announced.findIndex((each) => each.includes(arguments[0]));
+    window.heard = window.announced.splice(0, at + 1).pop();
+    return at >= 0"""
 # by itself it looks for them on a machine with some processors
 PROCESSORS = "Object.defineProperty(Navigator.prototype, 'hardwareConcurrency', { configurable: true, get: () => %d });"
 IDLE = """
@@ -26,6 +37,14 @@ HELD = """const { postMessage } = Worker.prototype;
     };
     window.goOn = () => { Worker.prototype.postMessage = postMessage; window.held.forEach((send) => send()); };
 """
+# keeps each text that a button has from now on, with its width then: some stay for a moment only
+WORDS = """const it = part(arguments[0]);
+    window.words = [];
+    new MutationObserver(() => window.words.push([it.textContent, it.getBoundingClientRect().width])).observe(it, { childList: true })"""
+# How many seconds what is waited for may take, and a search: a script may take longer, so that the wait says what doesn't come
+LONGEST_WAIT, LONGEST_SEARCH = 120, 300
+# how often a press is made anew whose place another thing took before it came there
+MOST_PRESSES = 5
 # what takes the last step of a line away
 LAST_STEP_AWAY = "#line-list li:last-child .acts button:nth-child(2)"
 # a method with its words, and each look with what is wanted of it
@@ -56,7 +75,7 @@ UNTIL = """const [words, end] = [[...arguments], performance.now() + %d];
         };
         look();
     })"""
-# the middle of what a selector finds, once it is in view, and what is seen there in its place
+# the middle of what a selector finds, once it is in view; a press that comes to something else, since that moved meanwhile, does nothing
 MIDDLE = """const it = document.querySelector(arguments[0]), opened = it.closest("details");
     if (opened && !it.matches("summary")) opened.open = true;
     if (!it.checkVisibility()) throw new Error("it isn't seen");
@@ -64,7 +83,22 @@ MIDDLE = """const it = document.querySelector(arguments[0]), opened = it.closest
     if (box().top < 0 || box().bottom > innerHeight) it.scrollIntoView({ block: "nearest", behavior: "instant" });
     const [x, y] = [box().left + box().width / 2, box().top + box().height / 2], there = document.elementFromPoint(x, y);
     if (!it.contains(there)) throw new Error(`${there?.outerHTML.slice(0, 80)} stands on it`);
+    window.aim?.abort();
+    [window.aim, window.missed] = [new AbortController(), null];
+    for (const kind of ["pointerdown", "mousedown", "pointerup", "mouseup", "click"]) addEventListener(kind, (event) => {
+        const isHit = document.querySelector(arguments[0])?.contains(event.target);
+        if (kind === "pointerdown") window.missed = isHit ? "" : event.target.outerHTML.slice(0, 80);
+        if (!window.missed) return;
+        event.preventDefault();
+        event.stopImmediatePropagation();
+    }, { capture: true, signal: window.aim.signal });
     return [x, y]"""
+# what a press came to in place of what it was meant for, once the page was drawn: nobody is quicker; a page that isn't seen may not be drawn
+PRESSED = """const drawn = new Promise((done) => requestAnimationFrame(() => requestAnimationFrame(done)));
+    return Promise.race([drawn, new Promise((done) => setTimeout(done, 5000))]).then(() => {
+        window.aim?.abort();
+        return window.missed ?? "";
+    })"""
 
 
 class Keys:
@@ -97,7 +131,7 @@ class Browser(Tab):
         self.page, self.program, self.page_without_engine = page, "", ""
         self.resize()
         self.media(prefers_color_scheme="light")
-        self.before_page(UNSEEN + PROCESSORS % 4)
+        self.before_page(UNSEEN + PROCESSORS % 4 + ANNOUNCED)
 
     def resize(self, width: int = 1280, height: int = 1000, mobile: bool = False) -> None:
         """Makes the window so large."""
@@ -155,26 +189,34 @@ class Browser(Tab):
             self.load(self.page + address)
         self.wait()
 
-    def until(self, text: str, *words: object) -> bool:
-        """Waits until a script answers with true, and says whether it did in time."""
-        return bool(self.script(UNTIL % (1000 * PATIENCE, text), *words))
+    def until(self, text: str, *words: object, seconds: int = LONGEST_WAIT) -> bool:
+        """Waits until a script answers with true, which it says, or stops if that doesn't come in time."""
+        try:
+            is_so = self.script(UNTIL % (1000 * seconds, text), *words)
+        except ValueError as fault:
+            raise ValueError(f"{str(fault).splitlines()[0]} in the wait for: {text}") from None
+        if not is_so:
+            raise TimeoutError(f"within {seconds} seconds this doesn't come with {words}: {text}")
+        return True
 
     def wait(self) -> None:
         """Waits until nothing on the page waits for an answer."""
-        if not self.until(IDLE):
-            raise TimeoutError("the page still waits for answers")
+        self.until(IDLE, seconds=LONGEST_SEARCH)
 
     def settle(self, text: str, *words: object) -> None:
         """Waits until a script answers with true, and then until nothing waits for an answer."""
-        if not self.until(text, *words):
-            raise TimeoutError(f"the page doesn't come to this: {text}")
+        self.until(text, *words)
         self.wait()
 
     def wait_best(self) -> None:
         """Waits until the best are found, or nothing looks for them."""
         self.wait()
-        if not self.until(BEST):
-            raise TimeoutError("the best are still looked for")
+        self.until(BEST, seconds=LONGEST_SEARCH)
+
+    def hears(self, text: str) -> str:
+        """Waits until something with this text is said to screen readers that wasn't heard before, and returns all that was said then."""
+        self.until(HEARD, text)
+        return self.script("return window.heard")
 
     def choose(self, name: str, value: str) -> None:
         """Chooses of a field, without waiting."""
@@ -233,7 +275,7 @@ class Browser(Tab):
 
     def comes(self, name: str, wanted: object) -> bool:
         """Waits until a look has this value and nothing waits for an answer, and says whether that came in time."""
-        end = time.monotonic() + PATIENCE
+        end = time.monotonic() + LONGEST_WAIT
         while self.look(name) != wanted and time.monotonic() < end:
             time.sleep(0.02)
         self.wait()
@@ -282,7 +324,15 @@ class Browser(Tab):
         self.script(send, name, text)
 
     def click(self, selector: str) -> None:
-        """Clicks the first element that a selector finds, in an opened part."""
+        """Clicks the first element that a selector finds, in an opened part, and again where that moves away before the press comes there."""
+        for _ in range(MOST_PRESSES):
+            if not (other := self.pressed(selector)):
+                return
+            made_again("press", f"{selector} moved away before it was pressed, and {other} stood there")
+        raise TimeoutError(f"{selector} moves away before each of {MOST_PRESSES} presses")
+
+    def pressed(self, selector: str) -> str:
+        """Presses where an element stands, and returns what the press came to in its place, "" if it came to it."""
         x, y = self.script(MIDDLE, selector)
         for kind in ("mouseMoved", "mousePressed", "mouseReleased"):
             self.command(
@@ -293,8 +343,7 @@ class Browser(Tab):
                 button="none" if kind == "mouseMoved" else "left",
                 clickCount=1,
             )
-        # nobody is quicker than the page draws
-        self.script("return new Promise((done) => requestAnimationFrame(() => requestAnimationFrame(() => done())))")
+        return self.script(PRESSED)
 
     def act(self, selector: str) -> None:
         """Clicks, and waits for the answers."""

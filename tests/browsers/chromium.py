@@ -5,6 +5,7 @@ from typing import Any
 from selenium import webdriver
 from selenium.common.exceptions import WebDriverException
 
+# how many seconds a script may take
 PATIENCE = 400
 WORDS = (
     "--headless=new",
@@ -17,6 +18,22 @@ WORDS = (
     "--disable-extensions",
     "--disable-default-apps",
 )
+# what a page shows where a test stops, whether it is drawn within two seconds, and what it said last to screen readers
+STATE = """const texts = Object.fromEntries(["status", "alert", "failed-words", "scramble-fault", "best-note", "best-stop", "solutions-note"]
+        .map((name) => [name, part(name)?.textContent.trim()]));
+    const drawn = new Promise((done) => { requestAnimationFrame(() => done(true)); setTimeout(done, 2000, false); });
+    return drawn.then((isDrawn) => JSON.stringify({
+        ...texts,
+        announced: window.announced?.slice(-4),
+        kept: all("#kept-list .step:has(.step)").map((each) => each.textContent),
+        pressed: all("[data-word]").map((each) => `${each.id}: ${each.textContent}`),
+        open: all(":popover-open, dialog[open]").map((each) => `${each.id}: ${each.textContent}`),
+        busy: all("[aria-busy=true]").map((each) => each.id),
+        inert: all("[inert]").map((each) => each.id),
+        focus: document.activeElement?.id || document.activeElement?.tagName,
+        hasFocus: document.hasFocus(), visibility: document.visibilityState, isDrawn, missed: window.missed, at: location.hash,
+    }))"""
+SHORT = 10
 # what the scripts of the tests call by short names
 HELPERS = """const part = (name) => document.getElementById(name), all = (selector) => [...document.querySelectorAll(selector)];
     const seen = (selector) => all(selector).filter((each) => each.checkVisibility());"""
@@ -59,6 +76,16 @@ class Tab:
             return self.driver.execute_script(f"{HELPERS} return (function () {{ {text}\n}})(...arguments)", *words)
         except WebDriverException as fault:
             raise ValueError(f"{fault.msg} in {text}") from None
+
+    def state(self) -> str:
+        """What the page shows, where a test stops."""
+        self.driver.set_script_timeout(SHORT)
+        try:
+            return f"the page shows {self.script(STATE)}"
+        except (ValueError, WebDriverException) as fault:
+            return f"the page doesn't say what it shows: {fault}"
+        finally:
+            self.driver.set_script_timeout(PATIENCE)
 
     def workers(self) -> int:
         """How many workers there are."""

@@ -13,7 +13,10 @@ import tempfile
 from importlib import import_module
 from inspect import isfunction, signature
 from pathlib import Path
+from traceback import extract_tb
 from typing import Callable
+
+from selenium.common.exceptions import WebDriverException
 
 sys.path.insert(0, str(Path(__file__).resolve().parent.parent))
 
@@ -26,6 +29,8 @@ PARTS = (
     "keyboard faults workers addresses best searches at_once turned steps line kept focus stops phone narrow sizes settings filters looks still "
     "trifles further desk first ahead teacher attempts scrambles passage compared walk"
 ).split()
+# how many signs of a fault are shown
+LONGEST_WORDS = 600
 # how many browsers there are, each with some of the parts
 BROWSERS = 12
 TOP = Path(__file__).resolve().parent.parent.parent
@@ -48,13 +53,20 @@ def trials(part: str) -> list[Callable[[Tally, Browser], None]]:
     return [each for each in own if list(signature(each).parameters) == ["tally", "browser"]]
 
 
+def stopped_at(stop: Exception, part: str) -> str:
+    """In which functions of a part a fault came up, and which, in one line."""
+    places = [each for each in extract_tb(stop.__traceback__) if Path(each.filename).stem == part]
+    words = " ".join(f"{type(stop).__name__}: {stop}".split())
+    return f"{', '.join(f'{each.name} at line {each.lineno}' for each in places)}: {words[:LONGEST_WORDS]}"
+
+
 def try_part(tally: Tally, browser: Browser, part: str) -> None:
     """The functions of a part, up to one that the page stops."""
     try:
         for each in trials(part):
             each(tally, browser)
-    except (TimeoutError, LookupError, TypeError, ValueError) as stop:
-        tally.holds(f"{part} goes to its end: {str(stop).splitlines()[0]}", False)
+    except (TimeoutError, LookupError, TypeError, ValueError, WebDriverException) as stop:
+        tally.holds(f"{part} goes to its end: {stopped_at(stop, part)}; {browser.state()}", False)
 
 
 def main() -> None:

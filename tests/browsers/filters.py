@@ -7,10 +7,6 @@ from passage import EO, cases_of, trigger_of
 from tally import Tally
 from wanted import Position
 
-SIGNS = """return ['on', 'clear'].map((each) => document.getElementById(`${arguments[0]}-${each}`))
-    .map((each) => each.checkVisibility() ? each.textContent : '')"""
-CLEAR = "Clear filters"
-
 
 def of_the_best(tally: Tally, browser: Browser) -> None:
     """Those of the best."""
@@ -21,23 +17,23 @@ def of_the_best(tally: Tally, browser: Browser) -> None:
         "return ['best-axis', 'best-side', 'best-next'].map((name) => document.getElementById(name).options[0].text)"
     )
     tally.equal("what leaves any is called so", every, ["any"] * 3)
-    tally.equal("without a filter nothing is said", browser.script(SIGNS, "best"), ["", ""])
+    tally.equal("without a filter nothing is said", browser.text("best-clear"), "")
     browser.choose("best-axis", "EO F/B")
     browser.choose("best-side", "inverse")
     left = browser.texts("#best-body tr")
-    tally.equal("two are on", browser.script(SIGNS, "best"), ["2 on", CLEAR])
+    tally.equal("two are on", browser.text("best-clear"), "Clear 2 filters")
     tally.holds("and leave less", left != first)
     browser.fill("scramble", SCRAMBLE)
     browser.wait_best()
     tally.holds("they are folded", not browser.script("return document.getElementById('best-options').open"))
-    tally.equal("for the next scramble too", browser.script(SIGNS, "best"), ["2 on", CLEAR])
+    tally.equal("for the next scramble too", browser.text("best-clear"), "Clear 2 filters")
     # none goes on to the axis that its EO has
     browser.choose("best-next", "DR F/B")
     tally.equal("nothing is left", browser.texts("#best-body tr"), [])
-    tally.equal("three are on", browser.script(SIGNS, "best"), ["3 on", CLEAR])
+    tally.equal("three are on", browser.text("best-clear"), "Clear 3 filters")
     tally.holds("which is said", browser.text("best-note").startswith("0 of "))
     browser.click("#best-clear")
-    tally.equal("they are cleared", browser.script(SIGNS, "best"), ["", ""])
+    tally.equal("they are cleared", browser.text("best-clear"), "")
     tally.holds("and all are there", browser.texts("#best-body tr"))
     tally.equal(
         "the focus is at the fold",
@@ -77,17 +73,17 @@ def of_many(tally: Tally, browser: Browser) -> None:
 def of_a_list(tally: Tally, browser: Browser) -> None:
     """Those of a list."""
     browser.open(address_of(LONGER) + "&list=eorl.normal.0")
-    tally.equal("without a filter nothing is said", browser.script(SIGNS, "list"), ["", ""])
+    tally.equal("without a filter nothing is said", browser.text("list-clear"), "")
     count = len(browser.listed())
     browser.script(TYPE, "", "U U")
-    tally.equal("nothing is left", (browser.listed(), browser.script(SIGNS, "list")), ([], ["1 on", CLEAR]))
+    tally.equal("nothing is left", (browser.listed(), browser.text("list-clear")), ([], "Clear 1 filter"))
     tally.holds("which is said", "0 rows match." in browser.text("solutions-note"))
     browser.click("#list-clear")
-    tally.equal("they are cleared", (len(browser.listed()), browser.script(SIGNS, "list")), (count, ["", ""]))
+    tally.equal("they are cleared", (len(browser.listed()), browser.text("list-clear")), (count, ""))
     browser.click("#list-cases-chips button")
-    tally.equal("a case", browser.script(SIGNS, "list")[0], "1 on")
+    tally.equal("a case", browser.text("list-clear"), "Clear 1 filter")
     browser.act('[data-cell="eofb.normal"]')
-    tally.equal("another list has none", browser.script(SIGNS, "list"), ["", ""])
+    tally.equal("another list has none", browser.text("list-clear"), "")
 
 
 # how far a list's field begins right of the first one, and how far below that the rows begin
@@ -97,7 +93,7 @@ PLACES = """const [above, field, note] = ['[for=slack]', '[for=filter]', '#solut
 
 
 def of_one(tally: Tally, browser: Browser) -> None:
-    """A case that all rows have is no choice, and isn't offered, but keeps its place; moves may be typed in each list, which no fold hides."""
+    """A case that all rows have is no choice, nor is one row by its moves: neither is offered, but both keep their place; no fold hides the moves."""
     after = f"{address_of(LONGER)}&steps=inverse.B_D_R_F2_B_D"
     for width in (1280, 360, 320):
         browser.resize(width, 740)
@@ -112,12 +108,19 @@ def of_one(tally: Tally, browser: Browser) -> None:
             triggers = {trigger_of(cases_of(LONGER, EO, step[2:4], line)) for line in lines}
             tally.equal(f"{step} {side}: whether there are several triggers", len(triggers) > 1, is_choice)
             browser.open(f"{after}&list={step}.{side}.0")
-            offered = "return getComputedStyle(part('list-filters')).visibility === 'visible'"
-            tally.equal(f"{width}: {step} {side}: whether these are offered", browser.script(offered), is_choice)
-            tally.holds(f"{width}: {step} {side}: moves may be typed", browser.look("filter?"))
+            offered = (
+                "return ['list-filters', 'filter'].map((each) => getComputedStyle(part(each)).visibility === 'visible')"
+            )
+            tally.equal(
+                f"{width}: {step} {side}: whether these are offered, and moves may be typed",
+                browser.script(offered),
+                [is_choice, len(rows) > 1],
+            )
             places.append(browser.script(PLACES))
         _, top = places[0]
         tally.equal(f"{width}: at the left, and as far above the rows", places, [[0, top]] * len(places))
+    tally.equal("the last list has one row", len(rows), 1)
+    browser.open(f"{after}&list=drrl-eoud.normal.0")
     browser.script(TYPE, "", "U U")
     browser.walk(tally, "one that is typed is cleared", ("click", "#list-clear", {"focus": "filter", "filter=": ""}))
     browser.resize()

@@ -58,7 +58,9 @@ class Firefox(Window):
         """A message: its length, a colon and its text."""
         length = b""
         while not length.endswith(b":"):
-            length += self.stream.read(1)
+            if not (byte := self.stream.read(1)):
+                raise RuntimeError("Firefox has ended")
+            length += byte
         return json.loads(self.stream.read(int(length[:-1])))
 
     def command(self, name: str, words: dict[str, object]) -> Any:

@@ -86,3 +86,20 @@ def shows_text(tally: Tally, browser: Browser) -> None:
     """The FMC text is seen."""
     fmc = f"{LONGER}\n(B D R F2 B D) // EO U/D (6)"
     browser.walk(tally, "the FMC text is seen", ("go", LINES, {"fmc": fmc}))
+
+
+def copies_early(tally: Tally, browser: Browser) -> None:
+    """What is kept is copied as soon as it is known what it is, if that is asked for before, however long that takes."""
+    away = 'document.querySelector("#kept-list li:last-child [data-control^=away]").click()'
+    # a browser knows of a press for five seconds
+    wait = "return new Promise((done) => setTimeout(() => done(window.goOn()), 6000))"
+    browser.walk(
+        tally,
+        "Copy all just after a line is removed",
+        ("open", LINES, {}),
+        ("until", "return all('#kept-list .total').every((each) => each.textContent !== '')", {}),
+        ("script", HELD % "walkKept" + away, {"kept": 1}),
+        ("click", "#copy-kept", {}),
+        ("script", wait, {}),
+    )
+    tally.equal("the scramble, then what is left", browser.hears("Copied: ").split("\n")[:1], [f"Copied: {LONGER}"])

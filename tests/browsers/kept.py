@@ -96,8 +96,7 @@ def keeps_in_address(tally: Tally, browser: Browser) -> None:
 
 def copies_kept(tally: Tally, browser: Browser) -> None:
     """Those that are left are copied, with their notes; and no more are kept than the address has room for."""
-    # what was taken away is said first
-    browser.until("return document.getElementById('status').textContent.includes('removed')")
+    browser.hears("A line was removed.")
     copied = "Copied: " + "\n\n".join(
         [
             SCRAMBLE,
@@ -109,8 +108,7 @@ def copies_kept(tally: Tally, browser: Browser) -> None:
         ]
     )
     browser.click("#copy-kept")
-    browser.until("return document.getElementById('status').textContent.startsWith('Copied')")
-    said = browser.texts("#status")[0]
+    said = browser.hears("Copied: ")
     blocks = said.split("\n\n")
     tally.equal("all are copied", [blocks[0], *(block.split(" //")[0] for block in blocks[1:])], copied.split("\n\n"))
     tally.holds(f"with their notes: {blocks[1]}", blocks[1].endswith("// a \u00e9 ~ , ; note"))
@@ -219,8 +217,7 @@ def reads_reductions(tally: Tally, browser: Browser, said: str, step: str) -> No
     browser.until(KEPT_SAID)
     tally.equal("they come back from the address", browser.script(KEPT_WORDS), before)
     browser.click("#copy-kept")
-    browser.until("return document.getElementById('status').textContent.startsWith('Copied')")
-    text = browser.texts("#status")[0].removeprefix("Copied: ")
+    text = browser.hears("Copied: ").removeprefix("Copied: ")
     tally.holds("the copy says it too, below the moves", f"\n{step}\n// {said}\n// {noted}\n" in text)
     notes = browser.script(NOTES)
     tally.equal("one has a note", [each for each in notes if each], [noted])

@@ -18,8 +18,7 @@ def fmc_text(tally: Tally, browser: Browser) -> None:
     browser.open(WRITTEN + "&steps=inverse.B_D_R_F2_B_D~normal.R_B-~normal.D2_R")
     before = browser.hash()
     browser.click("#copy-fmc")
-    browser.until("return part('status').textContent.startsWith('Copied')")
-    text = browser.look("said").removeprefix("Copied: ")
+    text = browser.hears("Copied: ").removeprefix("Copied: ")
     wanted = [EXAMPLE, "(B D R F2 B D) // EO U/D (6)", "R B' // (2/8)", "D2 R // DR F/B (2/10)"]
     tally.equal("the text", text.split("\n"), wanted)
     browser.walk(

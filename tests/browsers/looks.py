@@ -2,7 +2,7 @@
 import re
 from collections import Counter
 
-from browser import Browser, Keys
+from browser import WORDS, Browser, Keys
 from tally import Tally
 
 SCRAMBLE = "#scramble=R-_U-_F_D2_L2_F_R2_U2_R2_B_D2_L_B2_D-_B2_L-_R-_B-_D2_B2_R-_U-_F"
@@ -209,24 +209,25 @@ def helps(tally: Tally, browser: Browser) -> None:
         browser.press(Keys.ENTER)
         tally.holds(f"{name} opens", browser.until("return all('.popover:popover-open').length === 1"))
         fits(tally, browser, name)
-        tally.equal(
-            f"{name} is said", browser.look("said"), " ".join(browser.texts(".popover:popover-open")[0].split())
-        )
+        words = " ".join(browser.texts(".popover:popover-open")[0].split())
+        tally.equal(f"{name} is said", browser.hears(words), words)
         browser.press(Keys.ESCAPE)
         tally.holds(f"{name} closes", browser.until("return document.querySelector('.popover:popover-open') === null"))
 
 
 def copies(tally: Tally, browser: Browser) -> None:
     """The lines are copied, and said to be."""
-    copied = (
-        "return part('status').textContent === `Copied: ${arguments[0]}` || String(getSelection()) === arguments[0]"
-    )
     for name, word in (("joined", "Copy"), ("fmc", "Copy as FMC text")):
         line = browser.text(name)
+        browser.script(WORDS, f"copy-{name}")
         browser.click(f"#copy-{name}")
-        tally.holds(f"{name} is copied: {browser.look('said')}", browser.until(copied, line))
-        tally.holds("its button says so", browser.text(f"copy-{name}") == "Copied")
-        tally.holds("for a moment", browser.comes(f"copy-{name}", word))
+        tally.equal(f"{name} is copied", browser.hears("Copied: "), f"Copied: {line}")
+        browser.until("return window.words.length > 1")
+        tally.equal(
+            "its button says so for a moment",
+            [each for each, _ in browser.script("return window.words")],
+            ["Copied", word],
+        )
 
 
 def with_a_fault(tally: Tally, browser: Browser) -> None:

@@ -19,6 +19,8 @@ from model import Generator, scramble  # isort: skip
 TURNS = 25
 # so many rows of longer ones are kept
 MOST_LONGER = 200
+# for so many rows there is room on a desktop, at first and once more are shown
+ROOMS = (6, 46)
 IN_LIST = "return document.activeElement.closest('#solutions-groups') !== null"
 NOTE = """const field = all('.note-field').find((each) => each.ariaLabel === `Note: ${arguments[0]}`);
     field.value = arguments[1];
@@ -112,7 +114,10 @@ class Mean(Beside):
         self.browser.wait_best()
         ways = self.sheet.ways(self.sheet.line, 1)
         shown = self.ways[: len(self.browser.texts("#best-body .take"))]
-        joining = [way for way in ways[:MOST_LONGER] if way not in shown and way.rank < shown[-1].rank]
+        room = next(each for each in ROOMS if len(shown) <= each)
+        # where all rows are shown others have room below them, and no more than that
+        better = [way for way in ways[:MOST_LONGER] if way.rank < shown[-1].rank] if len(shown) == room else ways[:room]
+        joining = [way for way in better if way not in shown]
         kind = "better" if joining and joining[0].total < shown[0].total else "more"
         button = f"{counted(len(joining), f'{kind} row')}, from {joining[0].total} moves" if joining else ""
         self.same(f"{what}: the button", self.browser.text("best-new"), button)

@@ -84,10 +84,10 @@ def of_a_list(tally: Tally, browser: Browser) -> None:
             f"{pressed}: which is seen, said, and keeps the focus",
             (
                 sorted(browser.script(PRESSED % "list")),
-                browser.text("list-on"),
+                browser.text("list-clear"),
                 browser.script("return document.activeElement.dataset.case"),
             ),
-            (sorted(pressed), "1 on", changed),
+            (sorted(pressed), "Clear 1 filter", changed),
         )
     browser.press(Keys.SPACE)
     tally.equal("by keys it is pressed again", sorted(browser.script(PRESSED % "list")), sorted([first, second]))

@@ -265,6 +265,19 @@ def is_even(tally: Tally, browser: Browser) -> None:
     )
 
 
+def has_a_mean(tally: Tally, browser: Browser) -> None:
+    """Three scrambles with lines that are kept, and what is done with them, stand on one line, each as large as a finger needs."""
+    places = """const boxes = seen('#desk :is(a, button)').map((each) => each.getBoundingClientRect());
+        const tops = boxes.map(({ top }) => top);
+        return [Math.max(...tops) - Math.min(...tops) < 2, Math.min(...boxes.flatMap(({ width, height }) => [width, height])) >= 44]"""
+    browser.open("#scramble=R_U_F&kept=normal.D,normal.L,normal.B")
+    for address in ("#scramble=F-_L2_U&kept=normal.D", "#scramble=B2_R_D&kept=normal.D,normal.L"):
+        browser.follow(address)
+    for width in (430, 390, 375, 360):
+        browser.resize(width, 844, True)
+        browser.walk(tally, f"{width}", ("wait", {"#desk-chips a": ["1 ★3", "2 ★1", "3 ★2"], places: [True, True]}))
+
+
 def is_read(tally: Tally, browser: Browser) -> None:
     """A trigger is whole, what changes a step stands on one line, nothing touches the edge of the screen, and the inverse side's letter is no bar."""
     broken = """return all('#line-list :is(.trigger, .acts)').filter((each) => {

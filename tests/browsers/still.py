@@ -200,6 +200,22 @@ def at_sizes(tally: Tally, browser: Browser) -> None:
     takes(tally, browser, 320)
 
 
+def draws_once(tally: Tally, browser: Browser) -> None:
+    """For a list that opens, whose first row has the focus, the nets are drawn once; after a step for its cube, and for the cell that has the focus."""
+    drawn = """window.drawn = 0;
+        const net = document.querySelector("#net-normal .net");
+        new MutationObserver((all) => { window.drawn += all.length; }).observe(net, { attributeFilter: ["aria-label"] })"""
+    count = "return [window.drawn, window.drawn = 0][0]"
+    browser.resize()
+    browser.open(SCRAMBLE)
+    browser.wait_best()
+    browser.script(drawn)
+    for what, selector, most in (("a list", '[data-cell="eorl.normal"]', 1), ("a step", "#solutions-groups .take", 2)):
+        browser.act(selector)
+        browser.wait_best()
+        tally.equal(f"how often {what} draws the nets", browser.script(count), most)
+
+
 def waits(tally: Tally, browser: Browser) -> None:
     """A list that takes long doesn't hold the page, and what is pressed meanwhile stays where it is."""
     browser.go(SCRAMBLE)

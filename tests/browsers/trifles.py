@@ -1,6 +1,6 @@
 """What isn't asked for often: less motion, a sheet, a browser that refuses to copy, keys in a field, titles, a line kept with its
 reduction."""
-from browser import LAST_STEP_AWAY, Browser, Keys
+from browser import LAST_STEP_AWAY, WORDS, Browser, Keys
 from looks import SCRAMBLE
 from tally import Tally
 
@@ -26,9 +26,13 @@ def copies(tally: Tally, browser: Browser) -> None:
     """A button that says that it copied is no narrower then. A text that the browser refuses to copy is shown, selected."""
     width = "return part('copy-fmc').getBoundingClientRect().width"
     before = browser.script(width)
-    browser.walk(tally, "a button", ("click", "#copy-fmc", {}), ("comes", "copy-fmc", "Copied", {}))
-    tally.equal("while it says so", browser.script(width), before)
-    tally.holds("then it says its own words", browser.until("return part('copy-fmc').textContent.startsWith('Copy ')"))
+    word = browser.text("copy-fmc")
+    browser.script(WORDS, "copy-fmc")
+    browser.click("#copy-fmc")
+    browser.until("return window.words.length > 1")
+    tally.equal(
+        "it says so, then its own words", browser.script("return window.words"), [["Copied", before], [word, before]]
+    )
     tally.equal("as wide as before", browser.script(width), before)
     script = browser.before_page(REFUSED)
     browser.open(LINE + "&kept=inverse.B_D_R_F2_B_D")

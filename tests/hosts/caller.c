@@ -62,7 +62,7 @@ static const char *const FORMS[] = {"slices", "lower_case", "brackets", "apostro
 static const char *const LEFT_OUT[] = {"labels", "numbers of moves", "comments", "line numbers", "commas", "signs that aren't seen", NULL};
 static const char *const DOUBTS[] = {"",        "another scramble", "several solutions", "side", "letters", "small letters",
                                      "comment", "repetition",       "insertion",         "",     "",        "step or scramble",
-                                     "signs"};
+                                     "signs",   "another attempt"};
 
 static int begins_sign(uint8_t byte) { return (byte & 0xc0) != 0x80; }
 
@@ -180,25 +180,32 @@ static void say_another(text of, lines those, const written *scramble) {
     if (at == those.count) return;
     const written before = moves_of(of, (lines){those.first, at}, NISSY_OF_SOLUTION);
     if (nissy_check(scramble->bytes, scramble->length, before.bytes, before.length).solved)
-        say_text("another attempt"), say_place(of, those.first[at].moves);
+        say_text(DOUBTS[NISSY_ANOTHER_ATTEMPT]), say_place(of, those.first[at].moves);
     let_go(before);
+}
+
+static int is_solved_by_itself(const written *scramble) {
+    return scramble->length > 0 && nissy_check(scramble->bytes, scramble->length, scramble->bytes, 0).solved;
 }
 
 static void say_doubt(text of, lines those) {
     const attempt it = attempt_of(of, those);
     const int is_solved = it.has_solution && it.check.solved;
-    size_t at = 0;
+    size_t at = 0, stray = 0;
     while (at < those.count && those.first[at].doubt == NISSY_NO_DOUBT) at++;
+    while (stray < those.count && those.first[stray].doubt != NISSY_STEP_OR_SCRAMBLE) stray++;
     if (it.check.status == NISSY_DONE && is_solved) {
-        if (at == those.count)
+        if (at == those.count && is_solved_by_itself(&it.scramble))
+            say_text(DOUBTS[NISSY_ANOTHER_ATTEMPT]), say_place(of, it.scramble.places[0]);
+        else if (at == those.count)
             say_another(of, those, &it.scramble);
-        else if (those.first[at].doubt == NISSY_STEP_OR_SCRAMBLE)
-            say_text(DOUBTS[NISSY_STEP_OR_SCRAMBLE]), say_place(of, those.first[at].doubt_at);
+        else if (stray < those.count)
+            say_text(DOUBTS[NISSY_STEP_OR_SCRAMBLE]), say_place(of, those.first[stray].doubt_at);
     }
     if (it.check.status == NISSY_DONE && !is_solved) {
         if (at < those.count)
             say_text(DOUBTS[those.first[at].doubt]), say_place(of, those.first[at].doubt_at);
-        else if (it.scramble.length > 0 && nissy_check(it.scramble.bytes, it.scramble.length, it.scramble.bytes, 0).solved)
+        else if (is_solved_by_itself(&it.scramble))
             say_text(DOUBTS[NISSY_ANOTHER_SCRAMBLE]), say_place(of, it.scramble.places[0]);
         else
             say_part(of, those, &it.scramble);

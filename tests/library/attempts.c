@@ -10,11 +10,16 @@ static guarded moves_of(guarded text, const nissy_text_line *lines, uint64_t cou
     return made;
 }
 
-/* Whether the doubt of an attempt is that of its lines; else, if it isn't solved, that its scramble by itself is, or a part of its steps; else
- * that another attempt may begin in a line. */
+/* Whether the doubt of an attempt is that of its lines, if it is solved first that one may be of a scramble; else, if it isn't solved, that its
+ * scramble by itself is, or a part of its steps; else that another attempt may begin in a line. */
 static int is_doubt_of(const nissy_text_line *lines, uint64_t count, guarded scramble, const uint64_t *places, int is_unsolved,
                        const nissy_attempt_check *it) {
     uint64_t at = 0;
+    if (it->check.status == NISSY_DONE && !is_unsolved)
+        while (at < count && lines[at].doubt != NISSY_STEP_OR_SCRAMBLE) at++;
+    else
+        at = count;
+    if (at == count) at = 0;
     while (at < count && lines[at].doubt == NISSY_NO_DOUBT) at++;
     if (at < count) return it->doubt == lines[at].doubt && it->doubt_at == lines[at].doubt_at;
     if (is_unsolved && scramble.size > 0 && nissy_check(scramble.bytes, scramble.size, scramble.bytes, 0).solved)
@@ -126,6 +131,12 @@ static void checks_of_attempts(void) {
     has_check(NUMBERED, KNOWN, 2, 0, (uint64_t[]){1, 0, 2, 0, 1, NO, NO, 0, 0, 1, NISSY_DONE, 0, 1});
     has_check(NUMBERED, KNOWN, 2, 1, (uint64_t[]){0, 12, 14, 1, 2, NO, NO, 0, 0, 1, NISSY_DONE, 0, 1});
     has_check(NUMBERED, KNOWN, 2, 2, (uint64_t[]){NO, 29, 31, 2, 3, NO, 29, NISSY_WHICH_SCRAMBLE, 1, 0, NISSY_DONE, 0, 0});
+    /* what solves another known scramble, unless a part solves its own */
+    static const char EXCHANGED[] = "1. F' U' R'\n2. U' R'", OF_BOTH[] = "1. F'\nU' R'\n2. D";
+    has_check(EXCHANGED, KNOWN, 2, 0, (uint64_t[]){0, 0, 2, 0, 1, NO, 0, NISSY_WHICH_SCRAMBLE, 1, 1, NISSY_DONE, 0, 0});
+    has_check(EXCHANGED, KNOWN, 2, 1, (uint64_t[]){1, 12, 14, 1, 2, NO, 12, NISSY_WHICH_SCRAMBLE, 1, 1, NISSY_DONE, 0, 0});
+    has_check(OF_BOTH, KNOWN, 2, 0, (uint64_t[]){0, 0, 2, 0, 2, NO, 3, NISSY_A_PART, 1, 1, NISSY_DONE, 0, 0});
+    has_check(OF_BOTH, KNOWN, 2, 1, (uint64_t[]){1, 12, 14, 2, 3, NO, NO, 0, 0, 1, NISSY_DONE, 0, 0});
     has_check(NUMBERED, FAULTY, 2, 0, (uint64_t[]){1, 0, 2, 0, 1, NO, NO, 0, 0, 1, NISSY_FAULT, 1, 0});
 }
 

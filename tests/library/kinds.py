@@ -141,6 +141,7 @@ def doubts(tally: Tally) -> None:
         "R U F\n\nF' U' R LUL": ("letters", 3, 10),
         "r u f\n\nF' U' R'": ("small letters", 1, 1),
         "R U F\n\nf' u' r'": ("small letters", 3, 1),
+        "R U F\n\nf' u' R'": ("a part", 3, 1),
         "2. R U F\n\nSolutions:\n1. D\n2. F' U' R'": ("several solutions", 4, 4),
         "R U F\n\nF' // EO U' R' D": ("comment", 3, 4),
         "R U R U\n\n(U' R') x2": ("repetition", 3, 9),
@@ -153,6 +154,8 @@ def doubts(tally: Tally) -> None:
         "R U F\n\nF' R' // Skelett": ("insertion", 3, 10),
         "R U F\n\nAnna: F' U' R'\nBert: F' U' D": ("a part", 3, 7),
         f"{FREE}\n{FREE_STEPS}": ("step or scramble", 2, 1),
+        f"{FREE}\n{FREE_STEPS} twice": ("step or scramble", 2, 1),
+        f"{OTHER}\n{OTHER_STEPS} twice\n\n{OTHER}\n{OTHER_STEPS}": ("step or scramble", 6, 1),
         f"{OTHER}\n{OTHER_STEPS}\n\n{OTHER}\n{OTHER_STEPS}": ("step or scramble", 6, 1),
         f"{OTHER}\n{OTHER_STEPS}\n---\n{OTHER}\n{OTHER_STEPS}": ("another attempt", 6, 1),
         "1. R U\n1. U' R'\n\n2. F D\n1. D' F'": ("another attempt", 1, 4),
@@ -166,7 +169,7 @@ def doubts(tally: Tally) -> None:
     for text, wanted in texts.items():
         (told,) = [it.doubt for it in nissy.check_attempts(text)]
         tally.equal(f"the doubt of {text!r}", told and (told.reason, told.place.line, told.place.column), wanted)
-    undoubted = ("R U F\n\nF' U' R'", "R U F\n\nF' U' R", "R'U'F\n\nF'U'R", "R U F", "R U F\n\nf' u' R'")
+    undoubted = ("R U F\n\nF' U' R'", "R U F\n\nF' U' R", "R'U'F\n\nF'U'R", "R U F", "R U F\n\nf' u' L'")
     for text in (
         *undoubted,
         "R U F\n\nF', U', R",
@@ -217,6 +220,7 @@ def times(tally: Tally) -> None:
         "R' U' F ",
         "\r",
         "DR ",
+        "R U F\n\nF' // " + "\u89e3" * 300_000,
         f"{FIRST}\n{OF_FIRST} // EO (5/5)\n\n",
     ):
         data = piece.encode() * (1_000_000 // len(piece.encode()))

@@ -251,10 +251,13 @@ static void lines_of_no_text(void) {
     moves_are(TEXT, &line, 1, NISSY_OF_STEPS, "", PLACES, 0);
 }
 
-/* Where a step begins, of steps that stand a line each. */
+/* Where a step begins, of steps that stand a line each, but that a line feed in brackets ends none. */
 static uint64_t begin_of(const char *steps, uint8_t nth) {
     const char *at = steps;
-    for (; nth > 0; nth--) at = strchr(at, '\n') + 1;
+    for (int is_open = 0; nth > 0; at++) {
+        if (*at == '(' || *at == ')') is_open = *at == '(';
+        if (*at == '\n' && !is_open) nth--;
+    }
     return (uint64_t)(at - steps);
 }
 
@@ -276,15 +279,15 @@ static void parts_of_steps(void) {
     part_is("R U F", "F' U'\nR", NISSY_PART_IN_BRACKETS, 1, 1);
     /* both steps alone are tried before the first one in brackets, and the second in brackets after them */
     part_is("R", "R'\nR", NISSY_PART_ALONE, 0, 0);
-    part_is("R U F", "(F'\nU')\nR'", NISSY_PART_WITHOUT_BRACKETS, 0, 2);
+    part_is("R U F", "(F'\nU')\nR'", NISSY_PART_WITHOUT_BRACKETS, 0, 1);
     part_is("R U F", "(F' U' R')", NISSY_PART_WITHOUT_BRACKETS, 0, 0);
     part_is("R U F", "F' U'\nQ\nR'", NISSY_PART_LEFT_OUT, 1, 1);
     /* the second and the fourth step on the inverse, and the others not */
     part_is("R U F D", "D'\nR\nF'\nU", NISSY_PART_EACH_IN_BRACKETS, 1, 3);
     part_is("R U F D", "R\nD'\nU\nF'", NISSY_PART_EACH_IN_BRACKETS, 0, 2);
-    /* what has brackets stays as it is, also if that is no line by itself */
+    /* what has brackets stays as it is, and is one step over two lines */
     part_is("R U F D L", "(R)\nL'\nU\nD'\nF", NISSY_PART_EACH_IN_BRACKETS, 2, 4);
-    part_is("R U F D L B", "(R\nU)\nB'\nF\nL'\nD", NISSY_PART_EACH_IN_BRACKETS, 3, 5);
+    part_is("R U F D L B", "(R\nU)\nB'\nF\nL'\nD", NISSY_PART_EACH_IN_BRACKETS, 2, 4);
     /* the first, third and fourth step, and not the first, third and fifth, which would solve too */
     part_is("U R U' U' U", "U\nU'\nR\nU'\nU", NISSY_PART_EACH_IN_BRACKETS, 0, 3);
     /* made twice or three times, and no more often, as it stands or without its brackets: the first one, if two steps solve so */
@@ -293,7 +296,12 @@ static void parts_of_steps(void) {
     part_is("F R U R U D", "D' (F)\n(U' R')", NISSY_PART_REPEATED, 1, 1);
     part_is("U'", "U'\nU'", NISSY_PART_REPEATED, 0, 0);
     part_is("R U R U R U R U", "U' R'", NISSY_NO_PART, 0, 0);
-    part_is("R U R U", "(U'\nR')", NISSY_NO_PART, 0, 0);
+    /* small letters for capitals, all of them, in brackets too */
+    part_is("R U F D L B", "b' l'\nd'\nf' u' r'", NISSY_PART_IN_CAPITALS, 0, 2);
+    part_is("R U F", "f'\n(R u)", NISSY_PART_IN_CAPITALS, 0, 1);
+    part_is("R U F", "f'\nu' r'\nQ", NISSY_NO_PART, 0, 0);
+    part_is("R U R U", "(U'\nR')", NISSY_PART_REPEATED, 0, 0);
+    part_is("R U F", "(U'\nR'\nF')\nF'\nU'\nR'", NISSY_PART_LEFT_OUT, 0, 0);
     part_is("R U F D", "D'\nR\nF'\nU R", NISSY_NO_PART, 0, 0);
     part_is("R U F D", "D'\nQ\nF'\nU", NISSY_NO_PART, 0, 0);
     part_is("R U F", "F' U' R", NISSY_NO_PART, 0, 0);

@@ -12,7 +12,8 @@ import { casesPassed, positionAfter } from "./answers/position-after.js";
 import { readAddressed, readByHand, readOrFault, readWritten } from "./answers/read-lines.js";
 import { rowsOfList } from "./answers/list-rows.js";
 import { afterRow, copiedOf, examine, framesOf, walkKept } from "./answers/examine.js";
-import { bracketed, partOf, stateOf, stepNamed } from "./shared/offered-steps.js";
+import { lastOf } from "./shared/certain.js";
+import { bracketed, namesOf, partOf, reductionsAfter, stateOf, stepNamed } from "./shared/offered-steps.js";
 import { rankOf, type BestRow } from "../module/shared/ways.js";
 import type { FoundOnAxis, Question, Row } from "./cards/finder.js";
 
@@ -61,13 +62,19 @@ function bestOfAxis(
   return { rows: reductionsInWords(nissy, positionAfter(nissy, scramble, parts).lines.normal, rows), tried };
 }
 
-/** Builds the tables of a step, and looks at any scramble before it, since a browser compiles well only what has run:
- * so the first answer is sooner. */
+/** Builds the tables of a step, and once those beside it are there looks at any scramble before them, since a browser
+ * compiles well only what has run: so the first answer is sooner. A question waits for one table at most. */
 function build(nissy: Nissy, { step }: { step: Step }) {
   const { needs } = stepNamed(step);
+  const beside = needs === null ? [step] : namesOf(reductionsAfter(needs));
+  nissy.count(step, "");
+  if (step !== lastOf(beside)) return;
   const parts = needs === null ? [] : [partOf(nissy.solve(needs, ANY_SCRAMBLE, { sides: "normal", most: 1 })[0])];
-  examine(nissy, { text: ANY_SCRAMBLE, parts }, () => {});
-  rowsOfList(nissy, { list: { step, side: "normal", slack: 0, isAll: false }, scramble: ANY_SCRAMBLE, parts });
+  for (const name of beside) {
+    examine(nissy, { text: ANY_SCRAMBLE, parts }, () => {});
+    const list = { step: name, side: "normal", slack: 0, isAll: false } as const;
+    rowsOfList(nissy, { list, scramble: ANY_SCRAMBLE, parts });
+  }
 }
 
 /** Finds the best of any scramble, for the same. */

@@ -3,7 +3,7 @@ ghost use Rattle.std.specs.Prelude.{◌≡◌, ◌≤◌, ◌<◌, ◌*◌, ◌�
 ghost use Rattle.niss_text.specs.Plain.{IsPlain};
 ghost use Rattle.niss_text.specs.Lines.{Covers, Counts, Takes, AreNumbered, Begins, BeginNumbered};
 ghost use Rattle.niss_text.specs.Moves.{WritesMoves};
-ghost use Rattle.niss_text.specs.Known.{AreKnown, AreApart, HaveLines};
+ghost use Rattle.niss_text.specs.Known.{AreKnown, AreApart, AreOf, HaveLines, HaveNames};
 
 use niss_text::{
     KnownAnswer, KnownPart, MovesPart, PlainAnswer, TextAnswer, TextLine, known_lines, plain_line,
@@ -73,6 +73,8 @@ pub extern "C" fn nissy_known_lines(
     ensures takes { result.status ≡ 0 → Takes text.now 0 (take result.lines lines.new) (length text.now) }
     ensures known { result.status ≡ 0 → AreKnown (length counts.old) (take result.parts parts.new) }
     ensures apart { result.status ≡ 0 → AreApart (take result.parts parts.new) }
+    ensures names { result.status ≡ 0 → HaveNames text.now (take result.parts parts.new) }
+    ensures are_of { result.status ≡ 0 → AreOf text.now (length counts.old) (take result.parts parts.new) }
     ensures lines { result.status ≡ 0 → HaveLines 0 (take result.parts parts.new) result.lines }
     ensures behind { drop result.parts parts.new ≡ drop result.parts parts.old }
 {

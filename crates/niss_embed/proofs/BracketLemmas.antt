@@ -1,7 +1,9 @@
 -- No line has a bracket that stands in another one.
-use Rattle.std.proofs.Common.{◌≡◌, ◌∙◌, ℕ, ◌==◌, Bool, true, false, not, cond, if◌then◌else◌, ◌&&◌, ◌||◌, List, [], ◌∷◌, ◌++◌, map, refl, sym, ap, subst, append_assoc}
+use Rattle.std.proofs.Common.{◌≡◌, ◌∙◌, ℕ, ◌==◌, Bool, true, false, not, cond, ◌&&◌, ◌||◌, List, [], ◌∷◌, ◌++◌, ◌⊎◌, ◌+◌, ◌<◌, length, map, take, get_or, inl, inr, refl, sym, ap, subst, append_assoc}
 use Rattle.std.specs.Prelude.{flat_map}
 use Rattle.std.specs.List.{list_all}
+use Rattle.std.proofs.lemmas.Grind.{take_at_read}
+use Rattle.std.proofs.lemmas.List.{map-append}
 use Rattle.std.proofs.lemmas.List.Folds.{list_any-append, list_all-append}
 use Rattle.niss_moves.specs.Line.{Piece, piece_bytes, base_bytes, suffix_bytes, Suffix, Item, item_bytes, Spells}
 use Rattle.niss_moves.specs.Line.Piece.{Gap, Spelled}
@@ -14,34 +16,15 @@ use Rattle.niss_moves.specs.declared.turn.Axis.TheVariants.{Ud, Rl, Fb}
 use Rattle.niss_moves.specs.declared.token.Token.{Token}
 use Rattle.niss_moves.proofs.CallerLemmas.{Yes, Faces, holds, and_left, and_right}
 unfoldable use Rattle.niss_moves.proofs.CallerLemmas.{every_face}
-use Rattle.niss_embed.specs.declared.parts.Brackets.TheVariants.{Kept, Dropped}
+use Rattle.niss_embed.specs.declared.step_reading.Reading.TheVariants.{AsWritten, WithoutBrackets}
+use Rattle.niss_embed.specs.declared.dead_steps.Depth.{Depth}
+use Rattle.niss_embed.specs.declared.dead_steps.Depth.TheVariants.{Out, In, Wrong}
+use Rattle.niss_embed.specs.DeadSteps.{IsShut, after_byte, after_bytes, after_closing, after_opening}
 use Rattle.niss_embed.specs.Corners.{EndsNone, has_bracket}
 use Rattle.niss_embed.specs.Parts.{read_byte}
 
--- where a byte stands: outside brackets, in one, or after a bracket that stands wrong
-data Depth : Type 0 where
-  Out : Depth
-  In : Depth
-  Wrong : Depth
-
-abbrev after_opening : Depth → Depth
-after_opening Out = In
-after_opening In = Wrong
-after_opening Wrong = Wrong
-
-abbrev after_closing : Depth → Depth
-after_closing Out = Wrong
-after_closing In = Out
-after_closing Wrong = Wrong
-
-abbrev after_byte : Depth → ℕ → Depth
-after_byte d byte = if byte == 40 then after_opening d else (if byte == 41 then after_closing d else d)
-
-abbrev after_bytes : Depth → List ℕ → Depth
-after_bytes d [] = d
-after_bytes d (byte ∷ bytes) = after_bytes (after_byte d byte) bytes
-
-after_both : (d : Depth) (xs ys : List ℕ) → after_bytes d (xs ++ ys) ≡ after_bytes (after_bytes d xs) ys
+-- bytes and then others
+pub after_both : (d : Depth) (xs ys : List ℕ) → after_bytes d (xs ++ ys) ≡ after_bytes (after_bytes d xs) ys
 after_both d [] ys = refl
 after_both d (x ∷ xs) ys = after_both (after_byte d x) xs ys
 
@@ -147,7 +130,7 @@ is_not_wrong e = cc e
 
 -- Bytes that spell moves and have a bracket stand in no other one.
 pub nested_ends_none : (own after : List ℕ) (n b : List Token) → Spells own n b → has_bracket own ≡ true → EndsNone ((40 ∷ own ++ 41 ∷ []) ++ after)
-nested_ends_none own after n b it has before m c line =
+nested_ends_none own after n b it has before m c closed line =
     let wrong : after_bytes In own ≡ Wrong =
     ap (after_bytes In) it.bytes_are ∙ items_end_wrong it.items (ap has_bracket (sym it.bytes_are) ∙ has) in
     let all : List ℕ = before ++ ((40 ∷ own ++ 41 ∷ []) ++ after) in
@@ -156,10 +139,90 @@ nested_ends_none own after n b it has before m c line =
     after_both Out before ((40 ∷ own ++ 41 ∷ []) ++ after) ∙ in_brackets_wrong own after (after_bytes Out before) wrong in
     is_not_wrong (sym ends_out ∙ ends_wrong)
 
-pub more_ends_none : (own more : List ℕ) → EndsNone more → EndsNone (own ++ more)
-more_ends_none own more none before n b line =
+pub more_ends_none : (own more : List ℕ) → after_bytes Out own ≡ Out → EndsNone more → EndsNone (own ++ more)
+more_ends_none own more closes none before n b closed line =
     let same : before ++ (own ++ more) ≡ (before ++ own) ++ more = simp append_assoc in
-    none (before ++ own) n b (subst (λ (v : List ℕ). Spells v n b) same line)
+    none (before ++ own) n b (after_both Out before own ∙ ap (λ d. after_bytes d own) closed ∙ closes) (subst (λ (v : List ℕ). Spells v n b) same line)
+
+-- Bytes that spell moves leave no bracket open, and in a bracket that one, or one that stands wrong.
+pub spelled_out : (bytes : List ℕ) (n b : List Token) → Spells bytes n b → after_bytes Out bytes ≡ Out
+spelled_out bytes n b it = ap (after_bytes Out) it.bytes_are ∙ items_end_out it.items
+
+items_in : (items : List Item) → (after_bytes In (flat_map item_bytes items) ≡ In) ⊎ (after_bytes In (flat_map item_bytes items) ≡ Wrong)
+items_in [] = inl refl
+items_in (Outside p ∷ items) = by_rest (items_in items)
+  where
+    rest : List ℕ
+    rest = flat_map item_bytes items
+
+    first : after_bytes In (piece_bytes p ++ rest) ≡ after_bytes In rest
+    first = after_both In (piece_bytes p) rest ∙ ap (λ d. after_bytes d rest) (none_stays In (piece_bytes p) (piece_has_none p))
+
+    by_rest : (after_bytes In rest ≡ In) ⊎ (after_bytes In rest ≡ Wrong) →
+        (after_bytes In (piece_bytes p ++ rest) ≡ In) ⊎ (after_bytes In (piece_bytes p ++ rest) ≡ Wrong)
+    by_rest (inl e) = inl (first ∙ e)
+    by_rest (inr e) = inr (first ∙ e)
+items_in (Bracket ps ∷ items) = inr (wrong_stays ((flat_map piece_bytes ps ++ 41 ∷ []) ++ flat_map item_bytes items))
+
+pub spelled_in : (bytes : List ℕ) (n b : List Token) → Spells bytes n b → (after_bytes In bytes ≡ In) ⊎ (after_bytes In bytes ≡ Wrong)
+spelled_in bytes n b it =
+    subst (λ (v : List ℕ). (after_bytes In v ≡ In) ⊎ (after_bytes In v ≡ Wrong)) (sym it.bytes_are) (items_in it.items)
+
+-- bytes that close a bracket which none opened, before others and after some
+from_both : (xs ys : List ℕ) (d e : Depth) → after_bytes d xs ≡ e → after_bytes d (xs ++ ys) ≡ after_bytes e ys
+from_both xs ys d e is = after_both d xs ys ∙ ap (λ d. after_bytes d ys) is
+
+wrong_both : (xs ys : List ℕ) (d : Depth) → after_bytes d xs ≡ Wrong → after_bytes d (xs ++ ys) ≡ Wrong
+wrong_both xs ys d is = from_both xs ys d Wrong is ∙ wrong_stays ys
+
+out_not_in : Out ≡ In → ⊥
+out_not_in e = cc e
+
+wrong_not_in : Wrong ≡ In → ⊥
+wrong_not_in e = cc e
+
+pub shut_first : (xs ys : List ℕ) → (after_bytes Out ys ≡ Out) ⊎ (after_bytes Out ys ≡ Wrong) → IsShut xs → IsShut (xs ++ ys)
+shut_first xs ys rest shut = (wrong_both xs ys Out shut.0, by_depth (after_bytes In xs) refl)
+  where
+    from_out : after_bytes In xs ≡ Out → (after_bytes Out ys ≡ Out) ⊎ (after_bytes Out ys ≡ Wrong) → after_bytes In (xs ++ ys) ≡ In → ⊥
+    from_out is (inl e) h = out_not_in (sym (from_both xs ys In Out is ∙ e) ∙ h)
+    from_out is (inr e) h = wrong_not_in (sym (from_both xs ys In Out is ∙ e) ∙ h)
+
+    by_depth : (d : Depth) → after_bytes In xs ≡ d → after_bytes In (xs ++ ys) ≡ In → ⊥
+    by_depth Out is h = from_out is rest h
+    by_depth In is h = shut.1 is
+    by_depth Wrong is h = wrong_not_in (sym (wrong_both xs ys In is) ∙ h)
+
+pub shut_last : (xs ys : List ℕ) → after_bytes Out xs ≡ Out → (after_bytes In xs ≡ In) ⊎ (after_bytes In xs ≡ Wrong) → IsShut ys → IsShut (xs ++ ys)
+shut_last xs ys out within shut = (from_both xs ys Out Out out ∙ shut.0, λ h. by_depth within h)
+  where
+    by_depth : (after_bytes In xs ≡ In) ⊎ (after_bytes In xs ≡ Wrong) → after_bytes In (xs ++ ys) ≡ In → ⊥
+    by_depth (inl is) h = shut.1 (sym (from_both xs ys In In is) ∙ h)
+    by_depth (inr is) h = wrong_not_in (sym (wrong_both xs ys In is) ∙ h)
+
+-- So no bytes that end so spell moves, be they in a bracket of their own or not.
+pub wrong_ends_none : (bytes : List ℕ) → after_bytes Out bytes ≡ Wrong → EndsNone bytes
+wrong_ends_none bytes wrong before n b closed line =
+    is_not_wrong (sym (spelled_out (before ++ bytes) n b line) ∙ (from_both before bytes Out Out closed ∙ wrong))
+
+pub shut_ends_none : (bytes more : List ℕ) → IsShut bytes → EndsNone (bytes ++ more)
+shut_ends_none bytes more shut = wrong_ends_none (bytes ++ more) (wrong_both bytes more Out shut.0)
+
+pub shut_in_brackets : (bytes more : List ℕ) → IsShut bytes → EndsNone ((40 ∷ bytes ++ 41 ∷ []) ++ more)
+shut_in_brackets bytes more shut = wrong_ends_none ((40 ∷ bytes ++ 41 ∷ []) ++ more) (wrong_both (40 ∷ bytes ++ 41 ∷ []) more Out (by_depth (after_bytes In bytes) refl))
+  where
+    by_depth : (d : Depth) → after_bytes In bytes ≡ d → after_bytes In (bytes ++ 41 ∷ []) ≡ Wrong
+    by_depth Out is = from_both bytes (41 ∷ []) In Out is
+    by_depth In is = absurd (shut.1 is)
+    by_depth Wrong is = wrong_both bytes (41 ∷ []) In is
+
+-- one byte more
+pub depth_more : (d e : Depth) (f : ℕ → ℕ) (xs : List ℕ) (i j byte : ℕ) → i < length xs → byte ≡ f (get_or xs i j) → e ≡ after_bytes d (map f (take i xs)) →
+    after_byte e byte ≡ after_bytes d (map f (take (i + 1) xs))
+depth_more d e f xs i j byte l is before =
+    let next : map f (take (i + 1) xs) ≡ map f (take i xs) ++ byte ∷ [] =
+    ap (map f) (take_at_read xs i j l).1 ∙ map-append f (take i xs) (get_or xs i j ∷ []) ∙ ap (λ b. map f (take i xs) ++ b ∷ []) (sym is) in
+    sym (ap (after_bytes d) next ∙ from_both (map f (take i xs)) (byte ∷ []) d e (sym before))
 
 -- Bytes that spell pieces, once they are read, are read so without brackets too.
 pieces_have_none : (ps : List Piece) → list_all is_none (flat_map piece_bytes ps) ≡ true
@@ -173,13 +236,13 @@ same_byte byte false false false is_b is_c none = refl
 same_byte byte false true c is_b is_c none = absurd (cc (sym (ap not is_b) ∙ and_left _ _ none))
 same_byte byte false false true is_b is_c none = absurd (cc (sym (ap not is_c) ∙ and_right (not (byte == 40)) _ none))
 
-read_so : (bytes : List ℕ) → list_all is_none (map (read_byte Kept) bytes) ≡ true → map (read_byte Kept) bytes ≡ map (read_byte Dropped) bytes
+read_so : (bytes : List ℕ) → list_all is_none (map (read_byte AsWritten) bytes) ≡ true → map (read_byte AsWritten) bytes ≡ map (read_byte WithoutBrackets) bytes
 read_so [] none = refl
 read_so (byte ∷ bytes) none =
     let first = same_byte byte (byte == 10) (byte == 40) (byte == 41) refl refl (and_left _ _ none) in
-    let rest = read_so bytes (and_right (is_none (read_byte Kept byte)) _ none) in
+    let rest = read_so bytes (and_right (is_none (read_byte AsWritten byte)) _ none) in
     λ i. sym first i ∷ rest i
 
-pub pieces_read_so : (bytes : List ℕ) (ps : List Piece) → map (read_byte Kept) bytes ≡ flat_map piece_bytes ps →
-    map (read_byte Kept) bytes ≡ map (read_byte Dropped) bytes
+pub pieces_read_so : (bytes : List ℕ) (ps : List Piece) → map (read_byte AsWritten) bytes ≡ flat_map piece_bytes ps →
+    map (read_byte AsWritten) bytes ≡ map (read_byte WithoutBrackets) bytes
 pieces_read_so bytes ps are = read_so bytes (ap (list_all is_none) are ∙ pieces_have_none ps)

@@ -2,7 +2,7 @@
 use Rattle.std.proofs.Common.{◌≡◌, ◌∙◌, ℕ, zero, suc, ◌+◌, ◌-◌, ◌<◌, ◌≤◌, ◌==◌, ◌↔◌, Bool, true, false, not, ◌&&◌, ◌||◌, List, [], ◌∷◌, ◌++◌, length, map, take, drop, get_or, refl, sym, ap, subst, arith, append-nil, Result, Ok, Err, inl, inr, ◌⊎◌, cond, add-zero, length-append}
 use Rattle.std.specs.Prelude.{flat_map, slice_index, slice_range, IsTrue}
 use Rattle.std.proofs.Math.Seq.{take-add, get_or-append_seam}
-use Rattle.std.proofs.lemmas.Bool.{cases_lt}
+use Rattle.std.proofs.lemmas.Bool.{and_right, cases_lt}
 use Rattle.std.proofs.lemmas.Bool.Decides.{eqb_tells}
 use Rattle.std.proofs.lemmas.List.{map-append, drop-drop, get_or_append_left}
 use Rattle.std.proofs.lemmas.List.Folds.{list_any-append}
@@ -15,11 +15,14 @@ use Rattle.niss_moves.specs.Solving.{IsRotated, is_rotated, solves}
 use Rattle.niss_moves.specs.declared.token.Token.{Token}
 use Rattle.niss_moves.specs.declared.fault.ReadFault.{ReadFault}
 use Rattle.niss_moves.proofs.CallerLemmas.{inverse-append}
-use Rattle.niss_embed.specs.declared.parts.Brackets.{Brackets}
-use Rattle.niss_embed.specs.declared.parts.Brackets.TheVariants.{Kept, Dropped}
+use Rattle.niss_embed.specs.declared.step_reading.Reading.{Reading}
+use Rattle.niss_embed.specs.declared.step_reading.Reading.TheVariants.{AsWritten, WithoutBrackets, InCapitals}
 use Rattle.niss_embed.specs.declared.step_corners.StepCorners.{StepCorners}
-use Rattle.niss_embed.proofs.BracketLemmas.{pieces_read_so}
-use Rattle.niss_embed.specs.Corners.{Brings, Reads, Ascends, has_bracket}
+use Rattle.niss_embed.proofs.BracketLemmas.{pieces_read_so, shut_first, shut_last, spelled_in, spelled_out}
+use Rattle.niss_embed.specs.DeadSteps.{StandsNowhere, StaysDead}
+use Rattle.niss_embed.proofs.DeadLemmas.{dead_before}
+use Rattle.niss_embed.specs.Corners.{Brings, Reads, ReadsSo, Ascends, has_bracket}
+use Rattle.niss_embed.specs.LineFacts.{is_small_letter}
 use Rattle.niss_embed.specs.Parts.{read_byte, solves_line, steps_line}
 
 -- bytes and then others
@@ -31,11 +34,11 @@ spells_both bytes more n b m c one two = record {
   bracketed_are = (λ i. one.bracketed_are i ++ two.bracketed_are i) ∙ sym (flat_map-append item_bracketed one.items two.items);
 }
 
-or_left : (a b : Bool) → (a || b) ≡ false → a ≡ false
+pub or_left : (a b : Bool) → (a || b) ≡ false → a ≡ false
 or_left false b e = refl
 or_left true b e = e
 
-or_right : (a b : Bool) → (a || b) ≡ false → b ≡ false
+pub or_right : (a b : Bool) → (a || b) ≡ false → b ≡ false
 or_right false b e = e
 or_right true b e = absurd (cc e)
 
@@ -94,8 +97,8 @@ line_refused is_read one tested scramble line n b spells unless = by_result (rea
         (false_unless (solves scramble m) (λ h. unless (subst IsRotated (sym moves_are) ((tested (joined_moves scramble ++ joined_moves m)).0 h))))
 
 -- No bytes do nothing, and bytes do what the first of them and the others do.
-pub reads_nothing : (c : StepCorners) → Brings c.normal.to [] → Brings c.undone.to [] → Brings c.inverse.to [] → c.plain ≡ true → Reads [] c
-reads_nothing c brings undoes inverts plain = record {
+pub reads_nothing : (c : StepCorners) → Brings c.normal.to [] → Brings c.undone.to [] → Brings c.inverse.to [] → c.plain ≡ true → c.is_dead ≡ false → Reads [] c
+reads_nothing c brings undoes inverts plain lives = inl (record {
   normal = [];
   bracketed = [];
   spells = record { items = []; bytes_are = refl; normal_are = refl; bracketed_are = refl };
@@ -103,7 +106,8 @@ reads_nothing c brings undoes inverts plain = record {
   undoes = undoes;
   inverts = inverts;
   is_plain = plain;
-}
+  lives = lives;
+})
 
 abbrev pub BringsBoth : (first second both : List ℕ) → Type 0
 BringsBoth first second both = (s t : List Token) → Brings first s → Brings second t → Brings both (s ++ t)
@@ -112,9 +116,10 @@ neither : (a b : Bool) → (not a && not b) ≡ not (a || b)
 neither true b = refl
 neither false b = refl
 
-pub reads_both : (a b c : StepCorners) (bytes more : List ℕ) → BringsBoth a.normal.to b.normal.to c.normal.to → BringsBoth b.undone.to a.undone.to c.undone.to →
-    BringsBoth b.inverse.to a.inverse.to c.inverse.to → c.plain ≡ (a.plain && b.plain) → Reads bytes a → Reads more b → Reads (bytes ++ more) c
-reads_both a b c bytes more brings undoes inverts plain one two = record {
+reads_so_both : (a b c : StepCorners) (bytes more : List ℕ) → BringsBoth a.normal.to b.normal.to c.normal.to → BringsBoth b.undone.to a.undone.to c.undone.to →
+    BringsBoth b.inverse.to a.inverse.to c.inverse.to → c.plain ≡ (a.plain && b.plain) → c.is_dead ≡ (a.is_dead || b.is_dead) → ReadsSo bytes a → ReadsSo more b →
+    ReadsSo (bytes ++ more) c
+reads_so_both a b c bytes more brings undoes inverts plain dead one two = record {
   normal = one.normal ++ two.normal;
   bracketed = one.bracketed ++ two.bracketed;
   spells = spells_both bytes more one.normal one.bracketed two.normal two.bracketed one.spells two.spells;
@@ -125,7 +130,42 @@ reads_both a b c bytes more brings undoes inverts plain one two = record {
   is_plain =
       plain ∙ (λ i. one.is_plain i && two.is_plain i) ∙ neither (has_bracket bytes) (has_bracket more)
       ∙ ap not (sym (list_any-append (λ byte. byte == 40) bytes more));
+  lives = dead ∙ (λ i. one.lives i || two.lives i);
 }
+
+second_holds : (a b : Bool) → b ≡ true → (a || b) ≡ true
+second_holds true b e = refl
+second_holds false b e = e
+
+-- Bytes before or after some that stand in no line stand in none.
+none_first : (bytes more : List ℕ) (b : StepCorners) → StandsNowhere bytes → Reads more b → StaysDead bytes more → StandsNowhere (bytes ++ more)
+none_first bytes more b (inl dead) two stays = inl (dead_before bytes more dead)
+none_first bytes more b (inr shut) (inl two) stays = inr (shut_first bytes more (inl (spelled_out more two.normal two.bracketed two.spells)) shut)
+none_first bytes more b (inr shut) (inr two) stays = by_kind two.faulty
+  where
+    by_kind : StandsNowhere more → StandsNowhere (bytes ++ more)
+    by_kind (inl dead) = inl (stays dead)
+    by_kind (inr other) = inr (shut_first bytes more (inr other.0) shut)
+
+none_last : (bytes more : List ℕ) (a : StepCorners) → ReadsSo bytes a → StandsNowhere more → StaysDead bytes more → StandsNowhere (bytes ++ more)
+none_last bytes more a one (inl dead) stays = inl (stays dead)
+none_last bytes more a one (inr shut) stays =
+    inr (shut_last bytes more (spelled_out bytes one.normal one.bracketed one.spells) (spelled_in bytes one.normal one.bracketed one.spells) shut)
+
+pub reads_both : (a b c : StepCorners) (bytes more : List ℕ) → BringsBoth a.normal.to b.normal.to c.normal.to → BringsBoth b.undone.to a.undone.to c.undone.to →
+    BringsBoth b.inverse.to a.inverse.to c.inverse.to → c.plain ≡ (a.plain && b.plain) → c.is_dead ≡ (a.is_dead || b.is_dead) → Reads bytes a → Reads more b →
+    StaysDead bytes more → Reads (bytes ++ more) c
+reads_both a b c bytes more brings undoes inverts plain dead (inl one) (inl two) stays = inl (reads_so_both a b c bytes more brings undoes inverts plain dead one two)
+reads_both a b c bytes more brings undoes inverts plain dead (inr one) two stays = inr (record {
+  faulty = none_first bytes more b one.faulty two stays;
+  not_plain = plain ∙ ap (λ p. p && b.plain) one.not_plain;
+  is_dead = dead ∙ ap (λ p. p || b.is_dead) one.is_dead;
+})
+reads_both a b c bytes more brings undoes inverts plain dead (inl one) (inr two) stays = inr (record {
+  faulty = none_last bytes more a one two.faulty stays;
+  not_plain = plain ∙ and_right a.plain b.plain two.not_plain;
+  is_dead = dead ∙ second_holds a.is_dead b.is_dead two.is_dead;
+})
 
 -- what is plain has no bracket
 pub has_none : (p b : Bool) → p ≡ not b → p ≡ true → b ≡ false
@@ -133,15 +173,56 @@ has_none p true e f = absurd (cc (sym e ∙ f))
 has_none p false e f = refl
 
 -- Bytes are read as bytes that have a bracket if they have one.
-pub same_bracket : (bytes : List ℕ) → has_bracket (map (read_byte Kept) bytes) ≡ has_bracket bytes
+pub same_bracket : (bytes : List ℕ) → has_bracket (map (read_byte AsWritten) bytes) ≡ has_bracket bytes
 same_bracket [] = refl
 same_bracket (byte ∷ bytes) = λ i. by_test byte i || same_bracket bytes i
   where
-    by_test : (byte : ℕ) → (read_byte Kept byte == 40) ≡ (byte == 40)
+    by_test : (byte : ℕ) → (read_byte AsWritten byte == 40) ≡ (byte == 40)
     by_test byte = elim (eqb_tells byte 10) [ inl w ↦ rw w.1 refl | inr w ↦ ap (λ b. (cond b 32 byte) == 40) w.0 ]
 
+-- The small letters of turns, and their capitals, are no brackets.
+small_is_high : (byte : ℕ) → is_small_letter byte ≡ true → 98 ≤ byte
+small_is_high byte small = elim (eqb_tells byte 117) [
+  | inl u ↦ omega (arith, u.1)
+  | inr u ↦ elim (eqb_tells byte 100) [
+    | inl d ↦ omega (arith, d.1)
+    | inr d ↦ elim (eqb_tells byte 114) [
+      | inl r ↦ omega (arith, r.1)
+      | inr r ↦ elim (eqb_tells byte 108) [
+        | inl l ↦ omega (arith, l.1)
+        | inr l ↦ elim (eqb_tells byte 102) [
+          | inl f ↦ omega (arith, f.1)
+          | inr f ↦ elim (eqb_tells byte 98) [
+            | inl b ↦ omega (arith, b.1)
+            | inr b ↦ absurd (cc (sym small ∙ (λ i. u.0 i || (d.0 i || (r.0 i || (l.0 i || (f.0 i || b.0 i)))))))
+          ]
+        ]
+      ]
+    ]
+  ]
+]
+
+not_equal : (a b : ℕ) → (a ≡ b → ⊥) → (a == b) ≡ false
+not_equal a b differ = elim (eqb_tells a b) [ inl w ↦ absurd (differ w.1) | inr w ↦ w.0 ]
+
+capital_bracket : (byte : ℕ) → (read_byte InCapitals byte == 40) ≡ (byte == 40)
+capital_bracket byte = elim (eqb_tells byte 10) [ inl w ↦ rw w.1 refl | inr w ↦ ap (λ b. cond b 32 capital == 40) w.0 ∙ by_small (is_small_letter byte) refl ]
+  where
+    capital : ℕ
+    capital = cond (is_small_letter byte) (byte - 32) byte
+
+    by_small : (small : Bool) → is_small_letter byte ≡ small → (cond small (byte - 32) byte == 40) ≡ (byte == 40)
+    by_small false e = refl
+    by_small true e =
+        let high : 98 ≤ byte = small_is_high byte e in
+        not_equal (byte - 32) 40 (λ same. absurd (omega (arith, high, same))) ∙ sym (not_equal byte 40 (λ same. absurd (omega (arith, high, same))))
+
+pub same_bracket_in_capitals : (bytes : List ℕ) → has_bracket (map (read_byte InCapitals) bytes) ≡ has_bracket bytes
+same_bracket_in_capitals [] = refl
+same_bracket_in_capitals (byte ∷ bytes) = λ i. capital_bracket byte i || same_bracket_in_capitals bytes i
+
 -- Without brackets they have none.
-pub dropped_bracket : (bytes : List ℕ) → has_bracket (map (read_byte Dropped) bytes) ≡ false
+pub dropped_bracket : (bytes : List ℕ) → has_bracket (map (read_byte WithoutBrackets) bytes) ≡ false
 dropped_bracket [] = refl
 dropped_bracket (byte ∷ bytes) = λ i. by_test byte i || dropped_bracket bytes i
   where
@@ -151,22 +232,23 @@ dropped_bracket (byte ∷ bytes) = λ i. by_test byte i || dropped_bracket bytes
     by_tests byte false false true e = refl
     by_tests byte false false false e = e
 
-    by_test : (byte : ℕ) → (read_byte Dropped byte == 40) ≡ false
+    by_test : (byte : ℕ) → (read_byte WithoutBrackets byte == 40) ≡ false
     by_test byte = by_tests byte (byte == 10) (byte == 40) (byte == 41) refl
 
 -- a step that was read to its end
-pub step_reads : (brackets : Brackets) (bytes : List ℕ) (c : StepCorners) (m : Moves) → IsRead → read_line (map (read_byte brackets) bytes) ≡ Ok m →
+pub step_reads : (reading : Reading) (bytes : List ℕ) (c : StepCorners) (m : Moves) → IsRead → read_line (map (read_byte reading) bytes) ≡ Ok m →
     Brings c.normal.to m.normal → Brings c.undone.to (inverse m.normal) → Brings c.inverse.to (inverse m.bracketed) →
-    c.plain ≡ not (has_bracket (map (read_byte brackets) bytes)) → Reads (map (read_byte brackets) bytes) c
-step_reads brackets bytes c m is_read is brings undoes inverts plain = record {
+    c.plain ≡ not (has_bracket (map (read_byte reading) bytes)) → c.is_dead ≡ false → Reads (map (read_byte reading) bytes) c
+step_reads reading bytes c m is_read is brings undoes inverts plain lives = inl (record {
   normal = m.normal;
   bracketed = m.bracketed;
-  spells = ((is_read (map (read_byte brackets) bytes) m).0 is).0;
+  spells = ((is_read (map (read_byte reading) bytes) m).0 is).0;
   brings = brings;
   undoes = undoes;
   inverts = inverts;
   is_plain = plain;
-}
+  lives = lives;
+})
 
 -- Steps from one to a second and from there to a third are those from the one to the third.
 joined_ranges : (text : List ℕ) (a b c : ℕ) → a ≤ b → b ≤ c → slice_range text a b ++ slice_range text b c ≡ slice_range text a c
@@ -177,9 +259,9 @@ joined_ranges text a b c ab bc =
     ∙ sym (take-add (b - a) (c - b) (drop a text)) ∙ ap (λ n. take n (drop a text)) all
 
 pub joined_steps : (text : List ℕ) (a b c : ℕ) → a ≤ b → b ≤ c →
-    map (read_byte Kept) (slice_range text a b) ++ map (read_byte Kept) (slice_range text b c) ≡ map (read_byte Kept) (slice_range text a c)
+    map (read_byte AsWritten) (slice_range text a b) ++ map (read_byte AsWritten) (slice_range text b c) ≡ map (read_byte AsWritten) (slice_range text a c)
 joined_steps text a b c ab bc =
-    sym (map-append (read_byte Kept) (slice_range text a b) (slice_range text b c)) ∙ ap (map (read_byte Kept)) (joined_ranges text a b c ab bc)
+    sym (map-append (read_byte AsWritten) (slice_range text a b) (slice_range text b c)) ∙ ap (map (read_byte AsWritten)) (joined_ranges text a b c ab bc)
 
 -- places that ascend, by how far the first of them is from another
 pub ascends_to : (bounds : List ℕ) (a n : ℕ) → Ascends bounds → a + n < length bounds → slice_index bounds a ≤ slice_index bounds (a + n)
@@ -216,9 +298,10 @@ steps_more text bounds steps more one at number is reads last = (omega (arith, n
         (subst (λ (n : ℕ). Reads (steps_line text bounds k n) one) to (subst (λ (n : ℕ). Reads (steps_line text bounds n at) one) from last))
 
 -- what is read of a step without brackets is so without its brackets
-pub bare_reads : (bytes : List ℕ) (c : StepCorners) → c.plain ≡ true → Reads (map (read_byte Kept) bytes) c → Reads (map (read_byte Dropped) bytes) c
-bare_reads bytes c plain reads =
-    let none : has_bracket (map (read_byte Kept) bytes) ≡ false = has_none c.plain (has_bracket (map (read_byte Kept) bytes)) reads.is_plain plain in
+pub bare_reads : (bytes : List ℕ) (c : StepCorners) → c.plain ≡ true → Reads (map (read_byte AsWritten) bytes) c → Reads (map (read_byte WithoutBrackets) bytes) c
+bare_reads bytes c plain (inr none) = absurd (cc (sym plain ∙ none.not_plain))
+bare_reads bytes c plain (inl reads) =
+    let none : has_bracket (map (read_byte AsWritten) bytes) ≡ false = has_none c.plain (has_bracket (map (read_byte AsWritten) bytes)) reads.is_plain plain in
     let it = reads.spells in
     let w = plain_items it.items (ap has_bracket (sym it.bytes_are) ∙ none) in
-    subst (λ (read : List ℕ). Reads read c) (pieces_read_so bytes w.0 (it.bytes_are ∙ w.1)) reads
+    inl (subst (λ (read : List ℕ). ReadsSo read c) (pieces_read_so bytes w.0 (it.bytes_are ∙ w.1)) reads)

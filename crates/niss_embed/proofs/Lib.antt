@@ -14,8 +14,11 @@ pub mod SidesLemmas
 pub mod PartLemmas
 pub mod AttemptLemmas
 pub mod AttemptRuns
+pub mod KnownLemmas
+pub mod DeadLemmas
 pub mod CornerLemmas
 pub mod CornerLines
+pub mod ReadingLemmas
 pub mod BracketLemmas
 pub mod TailLemmas
 pub mod SetLemmas

@@ -1,5 +1,6 @@
 -- The places where steps end, and the first part that solves.
 use Rattle.std.proofs.Common.{◌≡◌, ℕ, zero, suc, ◌+◌, ◌<◌, ◌≤◌, ◌⊎◌, Bool, true, false, cond, None, Some, List, [], ◌∷◌, ◌++◌, length, take, refl, sym, ap, ◌∙◌, inl, inr, arith, length-append}
+use Rattle.std.specs.Prelude.{slice_index}
 use Rattle.std.specs.List.{filter, range_with_len}
 use Rattle.std.proofs.lemmas.Bool.{cases_lt}
 use Rattle.std.proofs.lemmas.List.{append-nil, take_all, take-append-le, length-take-le}
@@ -9,13 +10,20 @@ use Rattle.niss_embed.specs.declared.parts.How.{How}
 use Rattle.niss_embed.specs.declared.parts.How.TheVariants.{Alone, LeftOut, InBrackets}
 use Rattle.niss_embed.specs.declared.parts.Part.{Part}
 use Rattle.niss_embed.specs.Corners.{Ascends, AreBounds}
-use Rattle.niss_embed.specs.Parts.{most_steps, is_end, how_number, part, IsHow, IsPart, IsBefore, IsFirst, IsFirstFrom}
+use Rattle.niss_embed.specs.Parts.{most_steps, in_bracket, is_open_after, is_end, how_number, part, IsHow, IsPart, IsBefore, IsFirst, IsFirstFrom}
 unfoldable use Rattle.niss_embed.specs.Parts.{bounds_of}
 
 range_one : (n : ℕ) → range_with_len 1 (n + 1) ≡ range_with_len 1 n ++ (n + 1) ∷ []
 range_one n =
     let last : 1 + n ≡ n + 1 = omega arith in
     range_push 1 n ∙ ap (λ k. range_with_len 1 n ++ k ∷ []) last
+
+-- a bracket is open after one byte more
+pub bracket_after : (text : List ℕ) (n : ℕ) (before after : Bool) → after ≡ is_open_after before (slice_index text n) → before ≡ in_bracket text n →
+    after ≡ in_bracket text (n + 1)
+bracket_after text n before after is so_far =
+    let next : suc n ≡ n + 1 = omega arith in
+    is ∙ ap (λ b. is_open_after b (slice_index text n)) so_far ∙ ap (in_bracket text) next
 
 -- the places so far
 abbrev pub bounds_to : List ℕ → ℕ → List ℕ

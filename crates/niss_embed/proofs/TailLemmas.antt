@@ -1,32 +1,35 @@
 -- What the steps of an attempt from each one on do to the corners, if some of them stand in brackets.
 use Rattle.std.proofs.Common.{◌≡◌, ◌∙◌, ◌≢◌, ℕ, zero, suc, ◌+◌, ◌-◌, ◌<◌, ◌≤◌, ◌⊎◌, ◌==◌, Bool, true, false, not, List, [], ◌∷◌, ◌++◌, length, map, take, drop, add-zero, get_or, set, Result, Ok, Err, refl, sym, ap, subst, arith, inl, inr, append_assoc, append-nil}
-use Rattle.std.specs.Prelude.{flat_map, slice_index}
+use Rattle.std.specs.Prelude.{flat_map, slice_index, slice_range}
 use Rattle.std.specs.List.{range_with_len}
-use Rattle.std.proofs.lemmas.Bool.{cases_eq}
+use Rattle.std.proofs.lemmas.Bool.{cases_eq, cases_lt}
 use Rattle.std.proofs.lemmas.Nat.Bits.{bit_at-zero}
 use Rattle.std.proofs.lemmas.List.{get_or-set_same, get_or-set_other}
 use Rattle.niss_moves.specs.Effects.{inverse}
-use Rattle.niss_moves.specs.Line.{Moves, joined_moves}
+use Rattle.niss_moves.specs.Line.{Moves, Spells, joined_moves}
 use Rattle.niss_moves.specs.Reader.{read_line}
 use Rattle.niss_moves.specs.Solving.{IsRotated}
 use Rattle.niss_moves.specs.declared.fault.ReadFault.{ReadFault}
 use Rattle.niss_moves.specs.declared.token.Token.{Token}
 use Rattle.niss_moves.proofs.CallerLemmas.{inverse-append}
 use Rattle.niss_embed.specs.declared.corners.Corners.{Corners}
-use Rattle.niss_embed.specs.declared.parts.Brackets.TheVariants.{Kept}
+use Rattle.niss_embed.specs.declared.step_reading.Reading.TheVariants.{AsWritten, WithoutBrackets}
 use Rattle.niss_embed.specs.declared.step_corners.StepCorners.{StepCorners}
 use Rattle.niss_embed.specs.declared.step_sets.StepSet.{StepSet}
-use Rattle.niss_embed.specs.Corners.{Brings, Reads, Ascends, IsTail, AreSteps, AreTails, has_bracket, home, line_from, no_step}
-use Rattle.niss_embed.specs.Parts.{has, read_byte, step_with, steps_line, in_brackets_if, solves_line}
-use Rattle.niss_embed.proofs.BracketLemmas.{nested_ends_none, more_ends_none}
+use Rattle.niss_embed.specs.DeadSteps.{AreParted, IsDead, IsParted, Rests, StandsNowhere, StaysDead}
+use Rattle.niss_embed.specs.Corners.{Brings, Reads, ReadsSo, Ascends, IsTail, EndsNone, AreSteps, AreTails, has_bracket, home, line_from, no_step}
+use Rattle.niss_embed.specs.Parts.{has, bare_step, read_byte, step_with, steps_line, in_brackets_if, solves_line}
+use Rattle.niss_embed.proofs.BracketLemmas.{nested_ends_none, more_ends_none, shut_ends_none, shut_in_brackets, spelled_out}
+use Rattle.niss_embed.proofs.DeadLemmas.{dead_before, dead_after, dead_fails, dead_in_brackets, rests_both, rests_brackets, rests_nothing, stays_dead}
 use Rattle.niss_embed.proofs.CornerLemmas.{by_nothing}
-use Rattle.niss_embed.proofs.CornerLines.{BringsBoth, IsRead, HasOneReading, IsTested, spells_both, spells_in_brackets, has_none, line_refused, joined_steps, ascends_to}
+use Rattle.niss_embed.proofs.CornerLines.{BringsBoth, IsRead, HasOneReading, IsTested, spells_both, spells_in_brackets, has_none, line_refused, joined_steps, ascends_between, ascends_to}
 
 -- a step outside brackets before later ones
 pub outside_tail : (c : StepCorners) (later inner both bytes more : List ℕ) → BringsBoth later c.inverse.to inner → BringsBoth c.normal.to inner both →
-    Reads bytes c → IsTail more later → IsTail (bytes ++ more) both
-outside_tail c later inner both bytes more last first one (inr none) = inr (more_ends_none bytes more none)
-outside_tail c later inner both bytes more last first one (inl line) = inl (record {
+    ReadsSo bytes c → IsTail more later → StaysDead bytes more → IsTail (bytes ++ more) both
+outside_tail c later inner both bytes more last first one (inr (inl none)) stays = inr (inl (more_ends_none bytes more (spelled_out bytes one.normal one.bracketed one.spells) none))
+outside_tail c later inner both bytes more last first one (inr (inr dead)) stays = inr (inr (stays dead))
+outside_tail c later inner both bytes more last first one (inl line) stays = inl (record {
   normal = one.normal ++ line.normal;
   bracketed = one.bracketed ++ line.bracketed;
   spells = spells_both bytes more one.normal one.bracketed line.normal line.bracketed one.spells line.spells;
@@ -43,16 +46,20 @@ has_some : (p b : Bool) → p ≡ not b → p ≡ false → b ≡ true
 has_some p true e f = refl
 has_some p false e f = absurd (cc (sym e ∙ f))
 
+bracketed_so : (c : StepCorners) (bytes : List ℕ) → c.plain ≡ true → (one : ReadsSo bytes c) → Spells (40 ∷ bytes ++ 41 ∷ []) [] one.normal
+bracketed_so c bytes plain one = spells_in_brackets bytes one.normal one.bracketed one.spells (has_none c.plain (has_bracket bytes) one.is_plain plain)
+
 -- a step in brackets before later ones
-pub inside_tail : (c : StepCorners) (later both bytes more : List ℕ) → BringsBoth later c.undone.to both → c.plain ≡ true → Reads bytes c → IsTail more later →
+pub inside_tail : (c : StepCorners) (later both bytes more : List ℕ) → BringsBoth later c.undone.to both → c.plain ≡ true → ReadsSo bytes c → IsTail more later →
     IsTail ((40 ∷ bytes ++ 41 ∷ []) ++ more) both
-inside_tail c later both bytes more last plain one (inr none) = inr (more_ends_none (40 ∷ bytes ++ 41 ∷ []) more none)
+inside_tail c later both bytes more last plain one (inr (inl none)) = inr (inl (more_ends_none (40 ∷ bytes ++ 41 ∷ []) more (spelled_out (40 ∷ bytes ++ 41 ∷ []) [] one.normal (bracketed_so c bytes plain one)) none))
+inside_tail c later both bytes more last plain one (inr (inr dead)) = inr (inr (dead_after (40 ∷ bytes ++ 41 ∷ []) more (rests_brackets bytes) dead))
 inside_tail c later both bytes more last plain one (inl line) = inl (record {
   normal = line.normal;
   bracketed = one.normal ++ line.bracketed;
   spells =
       spells_both (40 ∷ bytes ++ 41 ∷ []) more [] one.normal line.normal line.bracketed
-      (spells_in_brackets bytes one.normal one.bracketed one.spells (has_none c.plain (has_bracket bytes) one.is_plain plain)) line.spells;
+      (bracketed_so c bytes plain one) line.spells;
   brings =
       let undone : inverse (one.normal ++ line.bracketed) ≡ inverse line.bracketed ++ inverse one.normal = inverse-append one.normal line.bracketed in
       let same : (line.normal ++ inverse line.bracketed) ++ inverse one.normal ≡ line.normal ++ (inverse line.bracketed ++ inverse one.normal) =
@@ -61,9 +68,26 @@ inside_tail c later both bytes more last plain one (inl line) = inl (record {
 })
 
 -- a step with brackets in brackets
-pub nested_tail : (c : StepCorners) (both bytes more : List ℕ) → c.plain ≡ false → Reads bytes c → IsTail ((40 ∷ bytes ++ 41 ∷ []) ++ more) both
+pub nested_tail : (c : StepCorners) (both bytes more : List ℕ) → c.plain ≡ false → ReadsSo bytes c → IsTail ((40 ∷ bytes ++ 41 ∷ []) ++ more) both
 nested_tail c both bytes more not_plain one =
-    inr (nested_ends_none bytes more one.normal one.bracketed one.spells (has_some c.plain (has_bracket bytes) one.is_plain not_plain))
+    inr (inl (nested_ends_none bytes more one.normal one.bracketed one.spells (has_some c.plain (has_bracket bytes) one.is_plain not_plain)))
+
+-- a step that can't be read, in brackets or not
+pub dead_tail : (in_brackets : Bool) (both bytes more : List ℕ) → StandsNowhere bytes → IsTail (in_brackets_if in_brackets bytes ++ more) both
+dead_tail false both bytes more (inl dead) = inr (inr (dead_before bytes more dead))
+dead_tail true both bytes more (inl dead) = inr (inr (dead_in_brackets bytes more dead))
+dead_tail false both bytes more (inr shut) = inr (inl (shut_ends_none bytes more shut))
+dead_tail true both bytes more (inr shut) = inr (inl (shut_in_brackets bytes more shut))
+
+pub dead_step_tail : (c : StepCorners) (in_brackets : Bool) (both bytes more : List ℕ) → c.is_dead ≡ true → Reads bytes c →
+    IsTail (in_brackets_if in_brackets bytes ++ more) both
+dead_step_tail c in_brackets both bytes more is (inl one) = absurd (cc (sym is ∙ one.lives))
+dead_step_tail c in_brackets both bytes more is (inr none) = dead_tail in_brackets both bytes more none.faulty
+
+-- what is told of a step that can be read
+pub living : (c : StepCorners) (bytes : List ℕ) → c.is_dead ≡ false → Reads bytes c → ReadsSo bytes c
+living c bytes is (inl one) = one
+living c bytes is (inr none) = absurd (cc (sym is ∙ none.is_dead))
 
 -- no bytes
 pub tail_of_none : IsTail [] home
@@ -117,16 +141,22 @@ tails_begin text bounds chosen tails room step none after within =
 
 -- one step more
 pub tails_more : (text bounds : List ℕ) (chosen : StepSet) (steps : List StepCorners) (tails : List Corners) (step : ℕ) (none : StepCorners) (nowhere both : Corners)
-    (in_brackets : Bool) → AreSteps text bounds steps → step < length steps → step < length tails → in_brackets ≡ has chosen step →
-    ((bytes more : List ℕ) → Reads bytes (get_or steps step none) → IsTail more (get_or tails (step + 1) nowhere).to → IsTail (in_brackets_if in_brackets bytes ++ more) both.to) →
+    (in_brackets : Bool) → AreSteps text bounds steps → AreParted text bounds → step < length steps → step < length tails → in_brackets ≡ has chosen step →
+    ((bytes more : List ℕ) → Reads bytes (get_or steps step none) → IsTail more (get_or tails (step + 1) nowhere).to → StaysDead bytes more →
+    IsTail (in_brackets_if in_brackets bytes ++ more) both.to) →
     AreTails text bounds chosen (step + 1) tails → AreTails text bounds chosen step (set tails step both)
-tails_more text bounds chosen steps tails step none nowhere both in_brackets are l room so later tails_are at other from within = by_place (cases_eq at step)
+tails_more text bounds chosen steps tails step none nowhere both in_brackets are parted l room so later tails_are at other from within = by_place (cases_eq at step)
   where
+    next_parted : (step + 2 < length bounds) ⊎ (length bounds ≤ step + 2) → IsParted (steps_line text bounds step (step + 1)) (line_from text bounds chosen (step + 1))
+    next_parted (inl before) = inl (parted step before AsWritten)
+    next_parted (inr last) = inr (line_end text bounds chosen (step + 1) (omega (arith, last)))
+
     first : IsTail (line_from text bounds chosen step) both.to
     first =
         let own : List ℕ = steps_line text bounds step (step + 1) in
         let rest : List ℕ = line_from text bounds chosen (step + 1) in
-        let tail : IsTail (in_brackets_if in_brackets own ++ rest) both.to = later own rest (are.reads step none l) (tails_are (step + 1) nowhere (omega arith) (omega (arith, l, are.number))) in
+        let tail : IsTail (in_brackets_if in_brackets own ++ rest) both.to = later own rest (are.reads step none l) (tails_are (step + 1) nowhere (omega arith) (omega (arith, l, are.number)))
+        (stays_dead own rest (next_parted (cases_lt (step + 2) (length bounds)))) in
         subst (λ (bytes : List ℕ). IsTail bytes both.to)
         (ap (λ b. in_brackets_if b own ++ rest) so ∙ sym (line_next text bounds chosen step (omega (arith, l, are.number)))) tail
 
@@ -143,7 +173,75 @@ tails_more text bounds chosen steps tails step none nowhere both in_brackets are
 pub steps_none : (text bounds : List ℕ) (k : ℕ) → steps_line text bounds k k ≡ []
 steps_none text bounds k =
     let none : slice_index bounds k - slice_index bounds k ≡ 0 = omega arith in
-    ap (λ n. map (read_byte Kept) (take n (drop (slice_index bounds k) text))) none
+    ap (λ n. map (read_byte AsWritten) (take n (drop (slice_index bounds k) text))) none
+
+-- From steps that end before the last one no move goes on.
+parted_to : (text bounds : List ℕ) (a n : ℕ) → AreParted text bounds → Ascends bounds → a + n + 1 < length bounds → Rests (steps_line text bounds a (a + n))
+parted_to text bounds a zero parted up l = subst Rests (sym (ap (steps_line text bounds a) (add-zero a) ∙ steps_none text bounds a)) rests_nothing
+parted_to text bounds a (suc n) parted up l =
+    let rest = parted_to text bounds (a + 1) n parted up (omega (arith, l)) in
+    let end : a + 1 + n ≡ a + suc n = omega arith in
+    let first : slice_index bounds a ≤ slice_index bounds (a + 1) = up a (omega (arith, l)) in
+    let next : slice_index bounds (a + 1) ≤ slice_index bounds (a + 1 + n) = ascends_to bounds (a + 1) n up (omega (arith, l)) in
+    subst Rests (joined_steps text (slice_index bounds a) (slice_index bounds (a + 1)) (slice_index bounds (a + 1 + n)) first next ∙ ap (steps_line text bounds a) end)
+    (rests_both (steps_line text bounds a (a + 1)) (steps_line text bounds (a + 1) (a + 1 + n)) (parted a (omega (arith, l)) AsWritten) rest)
+
+rests_between : (text bounds : List ℕ) (a b : ℕ) → AreParted text bounds → Ascends bounds → a ≤ b → b + 1 < length bounds → Rests (steps_line text bounds a b)
+rests_between text bounds a b parted up ab l =
+    let is : a + (b - a) ≡ b = omega (arith, ab) in
+    subst (λ (n : ℕ). Rests (steps_line text bounds a n)) is (parted_to text bounds a (b - a) parted up (omega (arith, is, l)))
+
+-- So steps stand before later ones.
+pub steps_parted : (text bounds : List ℕ) (a b : ℕ) → AreParted text bounds → Ascends bounds → a ≤ b → b < length bounds →
+    IsParted (steps_line text bounds a b) (steps_line text bounds b (length bounds - 1))
+steps_parted text bounds a b parted up ab l = by_order (cases_lt (b + 1) (length bounds))
+  where
+    by_order : (b + 1 < length bounds) ⊎ (length bounds ≤ b + 1) → IsParted (steps_line text bounds a b) (steps_line text bounds b (length bounds - 1))
+    by_order (inl before) = inl (rests_between text bounds a b parted up ab before)
+    by_order (inr last) =
+        let end : b ≡ length bounds - 1 = omega (arith, l, last) in
+        inr (ap (steps_line text bounds b) (sym end) ∙ steps_none text bounds b)
+
+pub steps_stay_dead : (text bounds : List ℕ) (a b c : ℕ) → AreParted text bounds → Ascends bounds → a ≤ b → b ≤ c → c < length bounds →
+    StaysDead (steps_line text bounds a b) (steps_line text bounds b c)
+steps_stay_dead text bounds a b c parted up ab bc l = by_order (cases_lt (b + 1) (length bounds))
+  where
+    by_order : (b + 1 < length bounds) ⊎ (length bounds ≤ b + 1) → StaysDead (steps_line text bounds a b) (steps_line text bounds b c)
+    by_order (inl before) = stays_dead (steps_line text bounds a b) (steps_line text bounds b c) (inl (rests_between text bounds a b parted up ab before))
+    by_order (inr last) =
+        let end : c ≡ b = omega (arith, l, last, bc) in
+        stays_dead (steps_line text bounds a b) (steps_line text bounds b c) (inr (ap (steps_line text bounds b) end ∙ steps_none text bounds b))
+
+-- the steps before some, of all after them
+pub before_parted : (text bounds : List ℕ) (first behind : ℕ) → AreParted text bounds → Ascends bounds → first ≤ behind → behind < length bounds →
+    IsParted (steps_line text bounds 0 first) (steps_line text bounds first behind ++ steps_line text bounds behind (length bounds - 1))
+before_parted text bounds first behind parted up ordered l =
+    let last : ℕ = length bounds - 1 in
+    let own : slice_index bounds first ≤ slice_index bounds behind = ascends_between bounds first behind up ordered l in
+    let rest : slice_index bounds behind ≤ slice_index bounds last = ascends_between bounds behind last up (omega (arith, l)) (omega (arith, l)) in
+    subst (IsParted (steps_line text bounds 0 first))
+    (sym (joined_steps text (slice_index bounds first) (slice_index bounds behind) (slice_index bounds last) own rest))
+    (steps_parted text bounds 0 first parted up (omega arith) (omega (arith, ordered, l)))
+
+-- a step without its brackets, of all after it
+pub bare_parted : (text bounds : List ℕ) (step : ℕ) → AreParted text bounds → step + 1 < length bounds →
+    IsParted (bare_step text bounds step) (steps_line text bounds (step + 1) (length bounds - 1))
+bare_parted text bounds step parted l = by_order (cases_lt (step + 2) (length bounds))
+  where
+    by_order : (step + 2 < length bounds) ⊎ (length bounds ≤ step + 2) → IsParted (bare_step text bounds step) (steps_line text bounds (step + 1) (length bounds - 1))
+    by_order (inl before) = inl (parted step before WithoutBrackets)
+    by_order (inr last) =
+        let end : step + 1 ≡ length bounds - 1 = omega (arith, l, last) in
+        inr (ap (steps_line text bounds (step + 1)) (sym end) ∙ steps_none text bounds (step + 1))
+
+-- It has no bytes if it has none as it is written.
+none_read : (f g : ℕ → ℕ) (bytes : List ℕ) → map f bytes ≡ [] → map g bytes ≡ []
+none_read f g [] e = refl
+none_read f g (x ∷ xs) e = absurd (cc e)
+
+pub bare_none : (text bounds : List ℕ) (step : ℕ) → steps_line text bounds step (step + 1) ≡ [] → bare_step text bounds step ≡ []
+bare_none text bounds step none =
+    none_read (read_byte AsWritten) (read_byte WithoutBrackets) (slice_range text (slice_index bounds step) (slice_index bounds (step + 1))) none
 
 plain_line : (text bounds : List ℕ) (n step : ℕ) → Ascends bounds → step + n < length bounds →
     flat_map (step_with text bounds no_step) (range_with_len step n) ≡ steps_line text bounds step (step + n)
@@ -177,8 +275,12 @@ pub tail_refused : IsRead → HasOneReading → IsTested → (scramble : Moves) 
 tail_refused is_read one tested scramble bytes to passes (inl line) test not_passed =
     line_refused is_read one tested scramble bytes line.normal line.bracketed line.spells
     (λ w. not_both passes (test (line.normal ++ inverse line.bracketed) line.brings w) not_passed)
-tail_refused is_read one tested scramble bytes to passes (inr none) test not_passed = by_result (read_line bytes) refl
+tail_refused is_read one tested scramble bytes to passes (inr ends) test not_passed = by_result (read_line bytes) refl
   where
+    faulty : (m : Moves) → read_line bytes ≡ Ok m → EndsNone bytes ⊎ IsDead bytes → ⊥
+    faulty m e (inl none) = none [] m.normal m.bracketed refl ((is_read bytes m).0 e).0
+    faulty m e (inr dead) = dead_fails bytes m dead e
+
     by_result : (r : Result Moves ReadFault) → read_line bytes ≡ r → solves_line (Ok scramble) r ≡ false
     by_result (Err f) e = refl
-    by_result (Ok m) e = absurd (none [] m.normal m.bracketed ((is_read bytes m).0 e).0)
+    by_result (Ok m) e = absurd (faulty m e ends)

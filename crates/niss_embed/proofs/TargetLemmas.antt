@@ -1,7 +1,7 @@
 -- What a target in memory takes, and what stands in the memory then.
 use Rattle.std.proofs.Common.{◌≡◌, ◌⊎◌, inl, inr, ℕ, zero, suc, ◌+◌, ◌-◌, ◌<◌, ◌≤◌, Bool, true, false, ◌||◌, Option, Some, None, Result, Ok, Err, List, [], ◌∷◌, ◌++◌, take, drop, length, length-append, append-nil, append_assoc, refl, sym, ap, ◌∙◌, subst, arith}
 use Rattle.std.specs.Prelude.{nat_lt}
-use Rattle.std.proofs.Math.Bool.{or-false}
+use Rattle.std.proofs.Math.Bool.{or-false, or-true}
 use Rattle.std.proofs.lemmas.List.{take_all, take-append-le, take_at, take-append-drop, drop_all, drop-drop, length-drop, length-take-le}
 use Rattle.std.proofs.lemmas.Grind.{common_steps}
 use Rattle.niss_shell.specs.Device.{TargetCall, Write, Flush, IsPiece, left_after, is_empty_answer}
@@ -55,10 +55,6 @@ pub record Took (text : List ℕ) (left : Option (List ℕ)) (old new : Lent) : 
   pub whole : part ++ rest ≡ text
   pub appended : Appended part old new
   pub ends : EndsAs left rest old.refused new.refused
-
-or_true : (b : Bool) → (b || true) ≡ true
-or_true true = refl
-or_true false = refl
 
 front_of_piece : (n : ℕ) (piece text : List ℕ) → IsPiece piece text → n ≤ length piece → take n piece ++ drop n text ≡ text
 front_of_piece n piece text p h =
@@ -120,12 +116,12 @@ module _ {D : Type 0} (state : D → Lent) where
     where
       refused_by : (piece : List ℕ) → 0 < length piece → (b : Bool) → (b || is_empty_answer 0 piece) ≡ true
       refused_by [] some b = absurd (omega (arith, some))
-      refused_by (byte ∷ piece) some b = or_true b
+      refused_by (byte ∷ piece) some b = or-true b
   took (Write piece (Err fault) ∷ calls) text left a c made sends =
       let done : made.0 ≡ c = subst (λ cs. Calls Does made.0 c cs) sends.1 made.1.1 in
       subst (λ l. Took text l (state a) (state c)) (sym sends.2)
       (subst (λ d. Took text None (state a) (state d)) done
-      (took_none piece text a made.0 sends.0 made.1.0.filled (made.1.0.shown.failed ∙ or_true (state a).refused)))
+      (took_none piece text a made.0 sends.0 made.1.0.filled (made.1.0.shown.failed ∙ or-true (state a).refused)))
   took (Write piece (Ok (suc n)) ∷ calls) text left a c made sends =
       let more = took calls (drop (suc n) text) left made.0 c made.1.1 sends.2 in
       record {

@@ -1,6 +1,6 @@
 -- What is told of attempts that were checked.
 use Rattle.std.specs.Prelude.{◌≡◌, ℕ, zero, suc, ◌+◌, ◌-◌, ◌<◌, ◌==◌, if◌then◌else◌, nat_lt, Bool, true, false, not, ◌&&◌, ◌||◌, ⊤, ◌≤◌, ◌↔◌, IsTrue, Ok, min, List, [], ◌∷◌, length, take, drop, get_or, slice_range}
-use Rattle.std.specs.List.{list_any}
+use Rattle.std.specs.List.{list_any, range_with_len}
 use Rattle.niss_text.specs.Moves.{AreJoined, is_wanted}
 use Rattle.niss_text.specs.declared.left_out.LeftOut.{LeftOut}
 use Rattle.niss_text.specs.declared.moves.MovesOf.{MovesOf}
@@ -11,11 +11,12 @@ use Rattle.niss_embed.specs.Another.{IsBeforeAnother}
 use Rattle.niss_embed.specs.LineFacts.{check_of}
 use Rattle.niss_embed.specs.Parts.{TellsPart}
 use Rattle.niss_embed.specs.declared.attempt_checks.AttemptCheck.{AttemptCheck}
-use Rattle.niss_embed.specs.declared.attempts.Judged.{Judged}
+use Rattle.niss_embed.specs.declared.judged.Judged.{Judged}
 use Rattle.niss_embed.specs.declared.attempts.Outcome.{Outcome}
 use Rattle.niss_embed.specs.declared.attempts.Outcome.TheVariants.{AtFault, Solved, Unsolved}
 use Rattle.niss_embed.specs.declared.runs.Placed.{Placed}
 use Rattle.niss_embed.specs.declared.known_parts.Found.{Found}
+use Rattle.niss_embed.specs.declared.known_parts.Known.{Known}
 use Rattle.niss_text.specs.declared.known.KnownPart.{KnownPart}
 use Rattle.niss_moves.specs.Line.{Moves}
 use Rattle.niss_moves.specs.Reader.{read_line}
@@ -110,9 +111,20 @@ abbrev pub IsDoubtOfSolved : (is_solved : Bool) → (text : List ℕ) (lines : L
 IsDoubtOfSolved true text lines scramble places told = told ≡ doubt 13 (get_or places 0 no_place)
 IsDoubtOfSolved false text lines scramble places told = IsBegunAgain text lines scramble told
 
+-- of some lines the first one that may be of a scramble, or another doubt if none may
+abbrev pub stray_or : Doubt → List TextLine → Doubt
+stray_or read [] = read
+stray_or read (line ∷ lines) = if line.doubt == 11 then doubt 11 line.doubt_at else stray_or read lines
+
+-- what is told of a reading in doubt: of what is solved before all that a line may be of a scramble, which counts then
+abbrev pub told_after : Outcome → List TextLine → (read : Doubt) → Doubt
+told_after AtFault lines read = read
+told_after Solved lines read = stray_or read lines
+told_after Unsolved lines read = read
+
 -- The doubt is that of the reading, or if there is none, one of what is solved or not.
 abbrev pub IsDoubt : (is_none : Bool) → Outcome → (text : List ℕ) (lines : List TextLine) (scramble places : List ℕ) (read told : Doubt) → Type 0
-IsDoubt false outcome text lines scramble places read told = told ≡ read
+IsDoubt false outcome text lines scramble places read told = told ≡ told_after outcome lines read
 IsDoubt true AtFault text lines scramble places read told = told ≡ read
 IsDoubt true Solved text lines scramble places read told =
     IsDoubtOfSolved (is_solved scramble places) text lines scramble places told
@@ -201,33 +213,79 @@ up_to lines part = slice_range lines 0 part.end_line
 abbrev pub others_of : List TextLine → KnownPart → List Run
 others_of lines part = attempts_from (min part.solution_end (length (up_to lines part))) (up_to lines part)
 
--- A scramble is solved, or not, by lines of its own, with this doubt of the reading.
-abbrev pub IsAlone : List ℕ → (own : List TextLine) → Run → (scramble : List ℕ) → Doubt → Placed → Type 0
-IsAlone text own lines scramble read it = (it.lines ≡ lines) × IsChecked text own scramble [] read it.judged
+-- The solution solves the known scramble of a number; how many are tried; and it solves one of these.
+abbrev pub solves_known : (scrambles ends solution : List ℕ) → ℕ → Bool
+solves_known scrambles ends solution n = nat_lt n (length ends) && (check_of (scramble_of scrambles ends n) solution).solved
+
+abbrev pub most_tried : ℕ
+most_tried = 64
+
+abbrev pub solves_some : (scrambles ends solution : List ℕ) → Bool
+solves_some scrambles ends solution = list_any (solves_known scrambles ends solution) (range_with_len 0 (min most_tried (length ends)))
+
+-- all known scrambles, by their bytes and where each ends, and where the part begins of which one is told
+pub record Elsewhere : Type 0 where
+  pub scrambles : List ℕ
+  pub ends : List ℕ
+  pub begin : ℕ
+
+abbrev pub elsewhere : Known → ℕ → Elsewhere
+elsewhere known begin = record { scrambles = known.scrambles.now; ends = known.ends.now; begin = begin }
+
+-- Another scramble may be meant: there is a solution, which has no fault and doesn't solve, and no doubt.
+abbrev pub is_open : Judged → Bool
+is_open it = (it.is_checked && (it.doubt == 0)) && ((it.check.status == 0) && not it.check.solved)
+
+abbrev pub in_doubt : (reason at : ℕ) → Judged → Judged
+in_doubt reason at it =
+    record { fault_at = it.fault_at; doubt_at = at; doubt = reason; is_doubted = true; is_checked = it.is_checked; check = it.check }
+
+abbrev pub or_which : (solves : Bool) → ℕ → Judged → Judged
+or_which true begin it = in_doubt 10 begin it
+or_which false begin it = it
+
+-- What was judged is in doubt if the solution solves a known scramble.
+pub record IsOfSome (text : List ℕ) (own : List TextLine) (others : Elsewhere) (judged it : Judged) : Type 0 where
+  pub solution : List ℕ
+  pub places : List ℕ
+  pub is_solution : AreWritten text Solution own solution places
+  pub it_is : it ≡ or_which (solves_some others.scrambles others.ends solution) others.begin judged
+
+-- The known scrambles are tried if another one may be meant.
+abbrev pub IsTried : (is_open : Bool) → (text : List ℕ) → (own : List TextLine) → Elsewhere → (judged it : Judged) → Type 0
+IsTried true text own others judged it = IsOfSome text own others judged it
+IsTried false text own others judged it = it ≡ judged
+
+-- A scramble is solved, or not, by lines of its own, with this doubt of the reading; or they may solve another one.
+pub record IsAlone (text : List ℕ) (own : List TextLine) (lines : Run) (scramble : List ℕ) (others : Elsewhere) (read : Doubt) (it : Placed) : Type 0 where
+  pub judged : Judged
+  pub lines_are : it.lines ≡ lines
+  pub is_checked : IsChecked text own scramble [] read judged
+  pub tried : IsTried (is_open judged) text own others judged it.judged
 
 -- An attempt among other lines is meant, which has the only solution, and the same scramble.
 abbrev pub is_meant : (is_only : Bool) → Found → (own : List TextLine) → Bool
 is_meant is_only found own = is_only && (found.is_same && not (list_any (is_wanted Solution) own))
 
-abbrev pub IsMeant : Bool → List ℕ → (own others : List TextLine) → (lines run : Run) → (scramble : List ℕ) → Found → Placed → Type 0
-IsMeant true text own others lines run scramble found it = IsOfRun text others run it
-IsMeant false text own others lines run scramble found it = IsAlone text own lines scramble (doubt 1 found.at) it
+abbrev pub IsMeant : Bool → List ℕ → (own beside : List TextLine) → (lines run : Run) → (scramble : List ℕ) → Elsewhere → Found → Placed → Type 0
+IsMeant true text own beside lines run scramble others found it = IsOfRun text beside run it
+IsMeant false text own beside lines run scramble others found it = IsAlone text own lines scramble others (doubt 1 found.at) it
 
 -- What is told of a known scramble by lines of its own, and an attempt among others that has a scramble, the only one or not.
-pub record IsBeside (text : List ℕ) (own others : List TextLine) (lines : Run) (scramble : List ℕ) (run : Run) (is_only : Bool) (it : Placed)
+pub record IsBeside (text : List ℕ) (own beside : List TextLine) (lines : Run) (scramble : List ℕ) (others : Elsewhere) (run : Run) (is_only : Bool) (it : Placed)
     : Type 0 where
   pub found : Found
-  pub is_found : IsFound text (slice_range others run.first run.end) scramble found
-  pub which : IsMeant (is_meant is_only found own) text own others lines run scramble found it
+  pub is_found : IsFound text (slice_range beside run.first run.end) scramble found
+  pub which : IsMeant (is_meant is_only found own) text own beside lines run scramble others found it
 
 abbrev pub has_none : List Run → Bool
 has_none [] = true
 has_none (run ∷ runs) = false
 
 -- The same by all attempts among the others that have a scramble.
-abbrev pub IsOfKnown : List ℕ → (own others : List TextLine) → Run → (scramble : List ℕ) → List Run → Placed → Type 0
-IsOfKnown text own others lines scramble [] it = IsAlone text own lines scramble (first_doubt own) it
-IsOfKnown text own others lines scramble (run ∷ runs) it = IsBeside text own others lines scramble run (has_none runs) it
+abbrev pub IsOfKnown : List ℕ → (own beside : List TextLine) → Run → (scramble : List ℕ) → Elsewhere → List Run → Placed → Type 0
+IsOfKnown text own beside lines scramble others [] it = IsAlone text own lines scramble others (first_doubt own) it
+IsOfKnown text own beside lines scramble others (run ∷ runs) it = IsBeside text own beside lines scramble others run (has_none runs) it
 
 abbrev pub run_of : KnownPart → Run
 run_of part = record { first = part.first_line; end = part.solution_end }
@@ -248,7 +306,7 @@ below_or_none count n = if nat_lt n count then n else no_place
 pub record IsOfScramble (text : List ℕ) (lines : List TextLine) (scrambles ends : List ℕ) (part : KnownPart) (it : Placed) : Type 0 where
   pub seen : part.scramble < length ends →
       IsOfKnown text (lines_of lines part) (up_to lines part) (run_of part) (scramble_of scrambles ends part.scramble)
-      (others_of lines part) it
+      (record { scrambles = scrambles; ends = ends; begin = part.begin }) (others_of lines part) it
   pub unseen : length ends ≤ part.scramble → IsUnseen part it
 
 -- This is the check of a part of a text of solutions, of scrambles that are known.

@@ -1,5 +1,5 @@
 -- Where moves bring the corners of the cube, by numbers of their places; and what parts of a line do to the corners.
-use Rattle.std.specs.Prelude.{◌≡◌, ℕ, ◌+◌, ◌-◌, ◌*◌, ◌<◌, ◌≤◌, ◌⊎◌, ◌==◌, Bool, true, not, ◌||◌, List, [], ◌∷◌, ◌++◌, length, flat_map, get_or, slice_index}
+use Rattle.std.specs.Prelude.{◌≡◌, ℕ, ◌+◌, ◌-◌, ◌*◌, ◌<◌, ◌≤◌, ◌⊎◌, ◌==◌, Bool, true, false, not, ◌||◌, List, [], ◌∷◌, ◌++◌, length, flat_map, get_or, slice_index}
 use Rattle.std.specs.List.{list_any, range_with_len}
 use Rattle.niss_moves.specs.Effects.{effect, inverse}
 use Rattle.niss_moves.specs.Line.{Spells, Moves, joined_moves}
@@ -13,6 +13,8 @@ use Rattle.niss_embed.specs.declared.step_corners.StepCorners.{StepCorners}
 use Rattle.niss_embed.specs.declared.step_corners.Around.{Around}
 use Rattle.niss_embed.specs.declared.step_corners.AttemptCorners.{AttemptCorners}
 use Rattle.niss_embed.specs.declared.step_sets.StepSet.{StepSet}
+use Rattle.niss_embed.specs.declared.dead_steps.Depth.TheVariants.{Out}
+use Rattle.niss_embed.specs.DeadSteps.{AreParted, IsDead, StandsNowhere, after_bytes}
 use Rattle.niss_embed.specs.Parts.{steps_line, step_with}
 
 abbrev pub side : Coord → ℕ
@@ -51,7 +53,7 @@ abbrev pub has_bracket : List ℕ → Bool
 has_bracket bytes = list_any (λ byte. byte == 40) bytes
 
 -- The bytes spell moves that do this to the corners.
-pub record Reads (bytes : List ℕ) (c : StepCorners) : Type 0 where
+pub record ReadsSo (bytes : List ℕ) (c : StepCorners) : Type 0 where
   pub normal : List Token
   pub bracketed : List Token
   pub spells : Spells bytes normal bracketed
@@ -59,6 +61,16 @@ pub record Reads (bytes : List ℕ) (c : StepCorners) : Type 0 where
   pub undoes : Brings c.undone.to (inverse normal)
   pub inverts : Brings c.inverse.to (inverse bracketed)
   pub is_plain : c.plain ≡ not (has_bracket bytes)
+  pub lives : c.is_dead ≡ false
+
+-- The bytes stand in no line of steps that can be read.
+pub record ReadsNone (bytes : List ℕ) (c : StepCorners) : Type 0 where
+  pub faulty : StandsNowhere bytes
+  pub not_plain : c.plain ≡ false
+  pub is_dead : c.is_dead ≡ true
+
+abbrev pub Reads : (bytes : List ℕ) → StepCorners → Type 0
+Reads bytes c = ReadsSo bytes c ⊎ ReadsNone bytes c
 
 -- No place stands before the one that is listed before it.
 abbrev pub Ascends : List ℕ → Type 0
@@ -82,13 +94,13 @@ pub record BringsLine (bytes to : List ℕ) : Type 0 where
   pub spells : Spells bytes normal bracketed
   pub brings : Brings to (normal ++ inverse bracketed)
 
--- No bytes that end so spell moves.
+-- No bytes that end so, after others that leave no bracket open, spell moves.
 abbrev pub EndsNone : List ℕ → Type 0
-EndsNone bytes = (before : List ℕ) (n b : List Token) → Spells (before ++ bytes) n b → ⊥
+EndsNone bytes = (before : List ℕ) (n b : List Token) → after_bytes Out before ≡ Out → Spells (before ++ bytes) n b → ⊥
 
--- A line that ends so ends in moves that bring corners so.
+-- A line that ends so ends in moves that bring corners so, or can't be read.
 abbrev pub IsTail : (bytes to : List ℕ) → Type 0
-IsTail bytes to = BringsLine bytes to ⊎ EndsNone bytes
+IsTail bytes to = BringsLine bytes to ⊎ (EndsNone bytes ⊎ IsDead bytes)
 
 -- all steps from one on as a line in which each of these stands in brackets of its own
 abbrev pub line_from : (text bounds : List ℕ) → StepSet → ℕ → List ℕ
@@ -103,11 +115,12 @@ AreTails text bounds set first tails =
 abbrev pub no_step : StepSet
 no_step = record { number = 0 }
 
--- what a scramble does and, if each step is a line by itself, the steps
+-- what a scramble does and, if each step is a line by itself or in none, the steps
 pub record IsAttempt (attempt : AttemptCorners) (scramble : Moves) (text bounds : List ℕ) : Type 0 where
   pub number : length bounds ≡ length attempt.steps.items + 1
   pub scrambles : Brings attempt.scramble.to (joined_moves scramble)
   pub are_steps : attempt.are_lines ≡ true → AreSteps text bounds attempt.steps.items
+  pub are_parted : attempt.are_lines ≡ true → AreParted text bounds
   pub are_tails : attempt.are_lines ≡ true → AreTails text bounds no_step 0 attempt.tails
 
 -- what the three parts of all steps do

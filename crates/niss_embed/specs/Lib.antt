@@ -13,4 +13,5 @@ pub mod Parts
 pub mod Another
 pub mod Attempts
 pub mod Runs
+pub mod DeadSteps
 pub mod Corners

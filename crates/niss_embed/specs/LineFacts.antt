@@ -1,5 +1,5 @@
 -- What the calls return that judge lines: by what solvers choose among them, and whether a solution solves a scramble.
-use Rattle.std.specs.Prelude.{ℕ, ◌+◌, nat_lt, if◌then◌else◌, false, Bool, ◌&&◌, ◌||◌, ◌==◌, Result, Ok, Err, List, [], ◌∷◌, length}
+use Rattle.std.specs.Prelude.{◌≡◌, ℕ, ◌+◌, ◌≤◌, nat_lt, if◌then◌else◌, false, Bool, ◌&&◌, ◌||◌, ◌==◌, Result, Ok, Err, List, [], ◌∷◌, length}
 use Rattle.std.specs.List.{list_any}
 use Rattle.niss_moves.specs.declared.fault.ReadFault.{ReadFault}
 use Rattle.niss_moves.specs.Faults.{fault_column}
@@ -153,3 +153,7 @@ check_of scramble solution =
     if nat_lt most_bytes (length scramble) then unchecked Stopped 1 0 0
     else (if nat_lt most_bytes (length solution) then unchecked Stopped 2 0 0
     else check_read (read_line scramble) (read_line solution) (forms_of solution))
+
+-- The line isn't too long, and its moves are these.
+abbrev pub IsReadAs : List ℕ → Moves → Type 0
+IsReadAs line moves = (length line ≤ most_bytes) × (read_line line ≡ Ok moves)

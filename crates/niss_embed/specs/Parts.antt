@@ -1,5 +1,5 @@
 -- The parts of some steps, and the first of them that solves a scramble.
-use Rattle.std.specs.Prelude.{◌≡◌, ℕ, ◌+◌, ◌-◌, ◌^◌, ◌<◌, ◌≤◌, ◌⊎◌, ◌==◌, nat_lt, if◌then◌else◌, Bool, true, false, ◌&&◌, ◌||◌, min, Option, None, Some, Result, Ok, Err, List, [], ◌∷◌, ◌++◌, length, map, flat_map, take, slice_index, slice_range}
+use Rattle.std.specs.Prelude.{◌≡◌, ℕ, zero, suc, ◌+◌, ◌-◌, ◌^◌, ◌<◌, ◌≤◌, ◌⊎◌, ◌==◌, nat_lt, if◌then◌else◌, Bool, true, false, not, ◌&&◌, ◌||◌, min, Option, None, Some, Result, Ok, Err, List, [], ◌∷◌, ◌++◌, length, map, flat_map, take, slice_index, slice_range}
 use Rattle.std.specs.Int.{bit_at}
 use Rattle.std.specs.List.{filter, range_with_len}
 use Rattle.niss_moves.specs.declared.fault.ReadFault.{ReadFault}
@@ -8,12 +8,13 @@ use Rattle.niss_moves.specs.Reader.{read_line}
 use Rattle.niss_moves.specs.Solving.{solves, move_count}
 use Rattle.niss_shell.specs.Words.{most_bytes}
 use Rattle.niss_embed.specs.LineCalls.{status_number}
+use Rattle.niss_embed.specs.LineFacts.{is_small_letter}
 use Rattle.niss_embed.specs.declared.answer.Status.{Status}
 use Rattle.niss_embed.specs.declared.answer.Status.TheVariants.{Done, Stopped}
 use Rattle.niss_embed.specs.declared.parts.How.{How}
 use Rattle.niss_embed.specs.declared.parts.How.TheVariants.{Alone, LeftOut, InBrackets}
-use Rattle.niss_embed.specs.declared.parts.Brackets.{Brackets}
-use Rattle.niss_embed.specs.declared.parts.Brackets.TheVariants.{Kept, Dropped}
+use Rattle.niss_embed.specs.declared.step_reading.Reading.{Reading}
+use Rattle.niss_embed.specs.declared.step_reading.Reading.TheVariants.{AsWritten, WithoutBrackets, InCapitals}
 use Rattle.niss_embed.specs.declared.parts.Part.{Part}
 use Rattle.niss_embed.specs.declared.parts.Found.{Found}
 use Rattle.niss_embed.specs.declared.parts.Found.TheVariants as found
@@ -30,25 +31,35 @@ most_in_sets = 8
 abbrev pub most_step_bytes : ℕ
 most_step_bytes = 65536
 
--- a step ends before this place: a line feed does, or the text
+-- whether a bracket is open after a byte, if one was before it or not
+abbrev pub is_open_after : Bool → ℕ → Bool
+is_open_after before byte = if byte == 40 then true else (if byte == 41 then false else before)
+
+-- a bracket is open after so many bytes of a text
+abbrev pub in_bracket : List ℕ → ℕ → Bool
+in_bracket text zero = false
+in_bracket text (suc n) = is_open_after (in_bracket text n) (slice_index text n)
+
+-- a step ends before this place: a line feed outside brackets does, or the text
 abbrev pub is_end : List ℕ → ℕ → Bool
-is_end text place = (slice_index text (place - 1) == 10) || (place == length text)
+is_end text place = ((slice_index text (place - 1) == 10) && not (in_bracket text place)) || (place == length text)
 
 -- where the first step begins, and where each ends that is looked at
 unfoldable pub bounds_of : List ℕ → List ℕ
 bounds_of text = 0 ∷ take most_steps (filter (is_end text) (range_with_len 1 (length text)))
 
--- what a byte of steps is read as: a line feed, and a bracket that is dropped, is a blank
-abbrev pub read_byte : Brackets → ℕ → ℕ
-read_byte Kept byte = if byte == 10 then 32 else byte
-read_byte Dropped byte = if (byte == 10) || ((byte == 40) || (byte == 41)) then 32 else byte
+-- what a byte of steps is read as: a line feed is a blank
+abbrev pub read_byte : Reading → ℕ → ℕ
+read_byte AsWritten byte = if byte == 10 then 32 else byte
+read_byte WithoutBrackets byte = if (byte == 10) || ((byte == 40) || (byte == 41)) then 32 else byte
+read_byte InCapitals byte = if byte == 10 then 32 else (if is_small_letter byte then byte - 32 else byte)
 
 abbrev pub part : How → (first behind : ℕ) → Part
 part how first behind = record { how = how; first = first; behind = behind }
 
 -- the steps from one to another as a line, by the places where steps begin and end
 abbrev pub steps_line : (text bounds : List ℕ) (first behind : ℕ) → List ℕ
-steps_line text bounds first behind = map (read_byte Kept) (slice_range text (slice_index bounds first) (slice_index bounds behind))
+steps_line text bounds first behind = map (read_byte AsWritten) (slice_range text (slice_index bounds first) (slice_index bounds behind))
 
 -- bytes in brackets of their own, or not
 abbrev pub in_brackets_if : Bool → List ℕ → List ℕ
@@ -82,10 +93,10 @@ solves_line (Err fault) line = false
 abbrev pub solves_part : Result Moves ReadFault → List ℕ → List ℕ → Part → Bool
 solves_part scramble text bounds p = solves_line scramble (read_line (part_line text bounds p))
 
--- all steps solve without their brackets
-abbrev pub solves_whole : Result Moves ReadFault → List ℕ → List ℕ → Bool
-solves_whole scramble text bounds =
-    solves_line scramble (read_line (map (read_byte Dropped) (slice_range text 0 (end_of_steps bounds))))
+-- all steps solve if they are read so
+abbrev pub solves_all : Reading → Result Moves ReadFault → List ℕ → List ℕ → Bool
+solves_all reading scramble text bounds =
+    solves_line scramble (read_line (map (read_byte reading) (slice_range text 0 (end_of_steps bounds))))
 
 -- A step is one of these. The lowest bit is that of the first step.
 abbrev pub has : StepSet → ℕ → Bool
@@ -144,7 +155,7 @@ IsFirst steps solving None = (q : Part) → IsPart steps q → solving q ≡ fal
 
 -- a step without its brackets
 abbrev pub bare_step : (text bounds : List ℕ) → ℕ → List ℕ
-bare_step text bounds step = map (read_byte Dropped) (slice_range text (slice_index bounds step) (slice_index bounds (step + 1)))
+bare_step text bounds step = map (read_byte WithoutBrackets) (slice_range text (slice_index bounds step) (slice_index bounds (step + 1)))
 
 -- bytes twice, or three times
 abbrev pub repeated : (thrice : Bool) → List ℕ → List ℕ
@@ -184,23 +195,28 @@ IsWithin steps (found.Part p) = IsPart steps p
 IsWithin steps found.WithoutBrackets = Unit {0}
 IsWithin steps (found.EachInBrackets set) = AreSome steps set
 IsWithin steps (found.Repeated step) = step < steps
+IsWithin steps found.InCapitals = Unit {0}
 IsWithin steps found.Nothing = Unit {0}
 
--- what is known of so many steps if no part solves, nor all without their brackets, nor a set
-abbrev pub NoneButRepeated : ℕ → (Part → Bool) → Bool → (StepSet → Bool) → Type 0
-NoneButRepeated steps solving whole with_set = IsFirst steps solving None × (whole ≡ false) × IsLeast steps with_set None
+-- what is known of so many steps if no part solves, nor all without their brackets, nor a set, and then nor one made several times
+abbrev pub NoneButRepeated : ℕ → (Part → Bool) → (Reading → Bool) → (StepSet → Bool) → Type 0
+NoneButRepeated steps solving whole with_set = IsFirst steps solving None × (whole WithoutBrackets ≡ false) × IsLeast steps with_set None
 
--- What is found of so many steps, by which parts solve, whether all do without their brackets, which sets solve if each
--- step of theirs is in brackets, and which steps do if they are made several times: the first part that solves, else all,
--- else the least set, else the first step, else nothing.
-abbrev pub IsFound : ℕ → (Part → Bool) → Bool → (StepSet → Bool) → (ℕ → Bool) → Found → Type 0
+abbrev pub NoneAsWritten : ℕ → (Part → Bool) → (Reading → Bool) → (StepSet → Bool) → (ℕ → Bool) → Type 0
+NoneAsWritten steps solving whole with_set several = NoneButRepeated steps solving whole with_set × IsFirstStep steps several None
+
+-- What is found of so many steps, by which parts solve, whether all do if they are read otherwise, which sets solve if each
+-- step of theirs is in brackets, and which steps do if they are made several times: the first part that solves, else all
+-- without their brackets, else the least set, else the first step, else all in capitals, else nothing.
+abbrev pub IsFound : ℕ → (Part → Bool) → (Reading → Bool) → (StepSet → Bool) → (ℕ → Bool) → Found → Type 0
 IsFound steps solving whole with_set several (found.Part p) = IsFirst steps solving (Some p)
-IsFound steps solving whole with_set several found.WithoutBrackets = IsFirst steps solving None × (whole ≡ true)
+IsFound steps solving whole with_set several found.WithoutBrackets = IsFirst steps solving None × (whole WithoutBrackets ≡ true)
 IsFound steps solving whole with_set several (found.EachInBrackets set) =
-    IsFirst steps solving None × (whole ≡ false) × IsLeast steps with_set (Some set)
+    IsFirst steps solving None × (whole WithoutBrackets ≡ false) × IsLeast steps with_set (Some set)
 IsFound steps solving whole with_set several (found.Repeated step) =
     NoneButRepeated steps solving whole with_set × IsFirstStep steps several (Some step)
-IsFound steps solving whole with_set several found.Nothing = NoneButRepeated steps solving whole with_set × IsFirstStep steps several None
+IsFound steps solving whole with_set several found.InCapitals = NoneAsWritten steps solving whole with_set several × (whole InCapitals ≡ true)
+IsFound steps solving whole with_set several found.Nothing = NoneAsWritten steps solving whole with_set several × (whole InCapitals ≡ false)
 
 abbrev pub no_part : Status → PartAnswer
 no_part status = record { status = status_number status; how = 0; first = 0; last = 0; begin = 0 }
@@ -214,13 +230,14 @@ answer_of bounds (found.EachInBrackets set) =
     record { status = status_number Done; how = 5; first = first_in set; last = last_in set; begin = slice_index bounds (first_in set) }
 answer_of bounds (found.Repeated step) =
     record { status = status_number Done; how = 6; first = step; last = step; begin = slice_index bounds step }
+answer_of bounds found.InCapitals = record { status = status_number Done; how = 7; first = 0; last = number_of_steps bounds - 1; begin = 0 }
 answer_of bounds found.Nothing = no_part Done
 
 -- What a call tells of a scramble and steps, which begin and end at these places, and of which one is too long or none is.
 abbrev pub Tells : Bool → (scramble steps bounds : List ℕ) → PartAnswer → Type 0
 Tells true scramble steps bounds answer = answer ≡ no_part Stopped
 Tells false scramble steps bounds answer =
-    (it : Found) × IsFound (number_of_steps bounds) (solves_part (read_line scramble) steps bounds) (solves_whole (read_line scramble) steps bounds)
+    (it : Found) × IsFound (number_of_steps bounds) (solves_part (read_line scramble) steps bounds) (λ reading. solves_all reading (read_line scramble) steps bounds)
     (solves_with (read_line scramble) steps bounds) (solves_repeated (read_line scramble) steps bounds) it
     × (answer ≡ answer_of bounds it)
 

@@ -4,15 +4,13 @@ ghost use Rattle.niss_text.specs.Moves.{most_bytes};
 ghost use Rattle.niss_embed.specs.Attempts.{Are, IsOfAttempt, IsOfScramble, IsOfSolutions, IsUnseen, ChecksAttempts, attempts_from, number_of_checks};
 
 use crate::answer::Status;
-use crate::attempts::{Judged, NONE, check_own};
+use crate::attempts::{NONE, check_own};
 use crate::fact_answers::CheckAnswer;
-use crate::known_parts::{Known, Solution};
+use crate::judged::Judged;
+use crate::known_parts::{Known, Solution, WHICH_SCRAMBLE};
 use crate::runs::{Placed, Run, next_run};
 use crate::stretch::stretch;
 use niss_text::{KnownPart, TextLine};
-
-/// The doubt that it can't be seen which scramble a part is a solution of.
-const WHICH_SCRAMBLE: u8 = 10;
 
 /// What is said of an attempt that was checked.
 #[repr(C)]
@@ -95,6 +93,8 @@ impl Attempts<'_> {
             },
             others,
             scramble,
+            known: self.known,
+            begin: part.begin,
         };
         solution.check(part.solution_end.min(others.len()), out, places)
     }

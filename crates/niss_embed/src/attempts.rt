@@ -7,10 +7,11 @@ ghost use Rattle.niss_text.specs.declared.moves.MovesOf.{MovesOf};
 ghost use Rattle.niss_text.specs.declared.moves.MovesOf.TheVariants.{Solution};
 ghost use Rattle.niss_embed.specs.Attempts.{AreWritten, IsChecked, IsDoubt, IsOwn, doubt, is_solved, no_doubt, no_place};
 ghost use Rattle.niss_embed.specs.Attempts.{first_doubt, fault_place, outcome_of, counts, doubt_of_part, told_from, IsBegunAgain, IsDoubtOfSteps};
-ghost use Rattle.niss_embed.specs.Attempts.{IsDoubtOfSolved, IsDoubtOfUnsolved};
+ghost use Rattle.niss_embed.specs.Attempts.{IsDoubtOfSolved, IsDoubtOfUnsolved, stray_or, told_after};
 
 use crate::another::lines_before_another;
 use crate::fact_answers::CheckAnswer;
+use crate::judged::Judged;
 use crate::line_facts::check_line;
 use crate::parts::{PartAnswer, solving_part};
 use niss_text::{TextLine, text_moves};
@@ -18,7 +19,7 @@ use niss_text::{TextLine, text_moves};
 /// Whose moves of some lines are wanted, and of which kinds these are, by the numbers of `niss_text`.
 pub(crate) const OF_SCRAMBLE: u8 = 0;
 
-const OF_SOLUTION: u8 = 2;
+pub(crate) const OF_SOLUTION: u8 = 2;
 
 const OF_EACH_STEP: u8 = 3;
 
@@ -38,25 +39,6 @@ const ANOTHER_ATTEMPT: u8 = 13;
 
 /// What has no place in the text, or is of none of the known scrambles.
 pub(crate) const NONE: usize = usize::MAX;
-
-/// What is said of an attempt: whether its solution solves, and what makes one doubt how it is read. Places are in bytes
-/// of the text; of what has none they are the highest number.
-#[repr(C)]
-#[derive(Clone, Copy, Debug, PartialEq, Eq)]
-pub struct Judged {
-    /// Where the fault stands that the check tells. One of a known scramble has no place.
-    pub fault_at: usize,
-    /// Where the doubt stands.
-    pub doubt_at: usize,
-    /// What makes one doubt it, by its number: what its lines say; else, if it isn't solved, 1 if its scramble by itself is,
-    /// or 9 if a part of its steps solves; if it is solved, 13 if it is so before its steps, or before another attempt may begin. 0 for nothing.
-    pub doubt: u8,
-    /// Whether the doubt counts: nothing is at fault, and there is no solution that solves, or the doubt is 11 or 13.
-    pub is_doubted: bool,
-    /// Whether there is a solution of which the check says something.
-    pub is_checked: bool,
-    pub check: CheckAnswer,
-}
 
 /// How the check of an attempt ended.
 #[derive(Clone, Copy, PartialEq, Eq)]
@@ -117,7 +99,34 @@ pub(crate) fn first_doubt(lines: &[TextLine]) -> Doubt
     Doubt::none()
 }
 
+/// Of some lines the first one that may be of a scramble, or another doubt if none may.
+fn stray_or(read: Doubt, lines: &[TextLine]) -> Doubt
+    ensures { result ≡ stray_or read lines.now }
+{
+    let mut rest = lines;
+    while let Some((line, after)) = rest.split_first() {
+        if line.doubt == STEP_OR_SCRAMBLE {
+            return Doubt {
+                reason: STEP_OR_SCRAMBLE,
+                at: line.doubt_at,
+            };
+        }
+        rest = after;
+    }
+    read
+}
+
 impl Doubt {
+    /// What is told of a reading in doubt once the check ended: before others what counts though all is solved.
+    fn after(self, outcome: Outcome, lines: &[TextLine]) -> Doubt
+        ensures { result ≡ told_after outcome lines.now self }
+    {
+        match outcome {
+            Outcome::Solved => stray_or(self, lines),
+            Outcome::AtFault | Outcome::Unsolved => self,
+        }
+    }
+
     pub(crate) fn none() -> Doubt
         ensures { result ≡ no_doubt }
     {
@@ -321,7 +330,7 @@ impl Given<'_> {
         ensures room { most_bytes lines.now ≤ length out.old → most_bytes lines.now ≤ length places.old → IsSome result }
     {
         if self.doubt.reason != 0 {
-            return Some(self.doubt);
+            return Some(self.doubt.after(outcome, lines));
         }
         match outcome {
             Outcome::AtFault => Some(self.doubt),

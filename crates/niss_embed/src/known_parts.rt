@@ -1,15 +1,18 @@
 //! Whether what stands in a part of a text of solutions solves the scramble that is known of it.
-ghost use Rattle.std.specs.Prelude.{◌≡◌, ◌≤◌, ◌<◌, ◌*◌, ◌↔◌, IfSome, IsSome, IsTrue, MatchOption, [], length, slice_range};
+ghost use Rattle.std.specs.Prelude.{◌≡◌, ◌≤◌, ◌<◌, ◌*◌, ◌↔◌, IfSome, IsSome, IsTrue, MatchOption, ℕ, List, [], length, slice_range};
 ghost use Rattle.niss_text.specs.Moves.{most_bytes};
 ghost use Rattle.niss_shell.specs.Output.{line_text};
 ghost use Rattle.niss_shell.specs.declared.command.Rewriting.TheVariants.{Print};
 ghost use Rattle.niss_embed.specs.Attempts.{IsSameCube, IsFound, IsAlone, IsMeant, IsBeside, IsOfKnown, scramble_of, begin_of, below_or_none};
-ghost use Rattle.niss_embed.specs.Attempts.{attempts_from};
+ghost use Rattle.niss_embed.specs.LineFacts.{IsReadAs};
+ghost use Rattle.niss_embed.specs.Attempts.{IsTried, attempts_from, elsewhere, is_open, solves_known, solves_some};
 
 use crate::attempts::{
-    Doubt, Given, NONE, OF_SCRAMBLE, check_by, check_own, first_doubt, has_solution, moves_of,
-    place_at,
+    Doubt, Given, NONE, OF_SCRAMBLE, OF_SOLUTION, check_by, check_own, first_doubt, has_solution,
+    moves_of, place_at,
 };
+use crate::judged::Judged;
+use crate::line_facts::is_solved;
 use crate::line_texts::read_by;
 use crate::runs::{Placed, Run, next_run};
 use crate::stretch::stretch;
@@ -19,6 +22,12 @@ use niss_text::TextLine;
 
 /// The doubt that a part has another scramble.
 const ANOTHER_SCRAMBLE: u8 = 1;
+
+/// The doubt that it can't be seen which scramble a part is a solution of.
+pub(crate) const WHICH_SCRAMBLE: u8 = 10;
+
+/// With how many known scrambles a solution is tried that doesn't solve its own.
+const MOST_TRIED: usize = 64;
 
 /// Scrambles that are known, one after another, and where each ends.
 #[derive(Clone, Copy)]
@@ -68,6 +77,42 @@ impl Known<'_> {
     {
         let end = self.ends.get(number)?;
         Some(stretch(self.scrambles, self.begin_of(number), *end as usize))
+    }
+
+    /// Whether there is a scramble of a number that a solution solves, which was read.
+    fn is_solved_by(&self, number: usize, solution: &Niss) -> bool
+        ensures { (line : List ℕ) → IsReadAs line solution.now → result ≡ solves_known self.now.scrambles.now self.now.ends.now line number }
+    {
+        match self.scramble(number) {
+            Some(scramble) => is_solved(scramble, solution),
+            None => false,
+        }
+    }
+
+    /// Whether a solution that was read solves one of the first scrambles.
+    fn is_one_solved(&self, solution: &Niss) -> bool
+        ensures { (line : List ℕ) → IsReadAs line solution.now → result ≡ solves_some self.now.scrambles.now self.now.ends.now line }
+    {
+        for number in 0..self.ends.len().min(MOST_TRIED) {
+            if self.is_solved_by(number, solution) {
+                return true;
+            }
+        }
+        false
+    }
+
+    /// Whether a solution solves one of the first scrambles. It is read once.
+    fn is_one_solved_by(&self, solution: &[u8]) -> bool
+        ensures { result ≡ solves_some self.now.scrambles.now self.now.ends.now solution.now }
+    {
+        if solution.len() > MOST_BYTES {
+            return false;
+        }
+        let mut reader = LineReader::new();
+        match read_by(&mut reader, solution) {
+            Ok(line) => self.is_one_solved(line),
+            Err(_) => false,
+        }
     }
 }
 
@@ -122,12 +167,30 @@ pub struct Solution<'a> {
     pub lines: Run,
     pub others: &'a [TextLine],
     pub scramble: &'a [u8],
+    pub known: Known<'a>,
+    /// Where the part begins.
+    pub begin: usize,
 }
 
 impl Solution<'_> {
+    /// What is said of it once it was judged by its scramble: if another one may be meant, whether it solves one.
+    fn tried(&self, judged: Judged, out: &mut [u8], places: &mut [u64]) -> Option<Judged>
+        ensures is { IfSome result (λ it. IsTried (is_open judged) self.now.text.now self.now.own.now (elsewhere self.now.known self.now.begin) judged it) }
+        ensures room { most_bytes self.now.own.now ≤ length out.old → most_bytes self.now.own.now ≤ length places.old → IsSome result }
+    {
+        if !judged.is_open() {
+            return Some(judged);
+        }
+        let count = moves_of(self.text, self.own, OF_SOLUTION, out, places)?;
+        if self.known.is_one_solved_by(&out[..count]) {
+            return Some(judged.in_doubt(WHICH_SCRAMBLE, self.begin));
+        }
+        Some(judged)
+    }
+
     /// What is said of it by its own lines.
     fn alone(&self, doubt: Doubt, out: &mut [u8], places: &mut [u64]) -> Option<Placed>
-        ensures is { IfSome result (λ it. IsAlone self.now.text.now self.now.own.now self.now.lines self.now.scramble.now doubt it) }
+        ensures is { IfSome result (λ it. IsAlone self.now.text.now self.now.own.now self.now.lines self.now.scramble.now (elsewhere self.now.known self.now.begin) doubt it) }
         ensures room { most_bytes self.now.own.now ≤ length out.old → most_bytes self.now.own.now ≤ length places.old → IsSome result }
     {
         let given = Given {
@@ -136,6 +199,7 @@ impl Solution<'_> {
             doubt,
         };
         let judged = check_by(self.text, self.own, &given, out, places)?;
+        let judged = self.tried(judged, out, places)?;
         Some(Placed {
             lines: self.lines,
             judged,
@@ -151,7 +215,7 @@ impl Solution<'_> {
         out: &mut [u8],
         places: &mut [u64],
     ) -> Option<Placed>
-        ensures is { IfSome result (λ it. IsMeant is_meant self.now.text.now self.now.own.now self.now.others.now self.now.lines run self.now.scramble.now found it) }
+        ensures is { IfSome result (λ it. IsMeant is_meant self.now.text.now self.now.own.now self.now.others.now self.now.lines run self.now.scramble.now (elsewhere self.now.known self.now.begin) found it) }
         ensures room { 2 * most_bytes self.now.own.now ≤ length out.old → 2 * most_bytes self.now.own.now ≤ length places.old →
             2 * most_bytes (slice_range self.now.others.now run.first run.end) ≤ length out.old →
             2 * most_bytes (slice_range self.now.others.now run.first run.end) ≤ length places.old → IsSome result }
@@ -170,7 +234,7 @@ impl Solution<'_> {
 
     /// What is said of it beside an attempt that has a scramble, the only one or not.
     fn beside(&self, run: Run, is_only: bool, out: &mut [u8], places: &mut [u64]) -> Option<Placed>
-        ensures is { IfSome result (λ it. IsBeside self.now.text.now self.now.own.now self.now.others.now self.now.lines self.now.scramble.now run is_only it) }
+        ensures is { IfSome result (λ it. IsBeside self.now.text.now self.now.own.now self.now.others.now self.now.lines self.now.scramble.now (elsewhere self.now.known self.now.begin) run is_only it) }
         ensures room { 2 * most_bytes self.now.own.now ≤ length out.old → 2 * most_bytes self.now.own.now ≤ length places.old →
             2 * most_bytes (slice_range self.now.others.now run.first run.end) ≤ length out.old →
             2 * most_bytes (slice_range self.now.others.now run.first run.end) ≤ length places.old → IsSome result }
@@ -186,7 +250,7 @@ impl Solution<'_> {
     pub(crate) fn check(&self, from: usize, out: &mut [u8], places: &mut [u64]) -> Option<Placed>
         requires { from ≤ length self.now.others.now }
         ensures is { IfSome result (λ it. IsOfKnown self.now.text.now self.now.own.now self.now.others.now self.now.lines self.now.scramble.now
-            (attempts_from from self.now.others.now) it) }
+            (elsewhere self.now.known self.now.begin) (attempts_from from self.now.others.now) it) }
         ensures room { 2 * most_bytes self.now.own.now ≤ length out.old → 2 * most_bytes self.now.own.now ≤ length places.old →
             2 * most_bytes self.now.others.now ≤ length out.old → 2 * most_bytes self.now.others.now ≤ length places.old → IsSome result }
     {

@@ -1,10 +1,10 @@
 //! What is told of lines without a search: by what solvers choose among them, and whether a solution solves a scramble.
-ghost use Rattle.std.specs.Prelude.{◌≡◌, ◌≤◌, Ok, Err};
+ghost use Rattle.std.specs.Prelude.{◌≡◌, ◌≤◌, ℕ, List, Ok, Err};
 ghost use Rattle.std.specs.List.{list_any};
 ghost use Rattle.niss_moves.specs.Solving.{move_count, clean_count};
 ghost use Rattle.niss_cube.specs.Map.{map_of};
 ghost use Rattle.niss_shell.specs.Output.{home};
-ghost use Rattle.niss_embed.specs.LineFacts.{axis_facts, facts_of, facts_of_cube, check_of, checked, forms_of, flag};
+ghost use Rattle.niss_embed.specs.LineFacts.{IsReadAs, axis_facts, facts_of, facts_of_cube, check_of, checked, forms_of, flag};
 ghost use Rattle.niss_embed.specs.LineFacts.{is_slice_letter, is_small_letter, is_bracket, is_apostrophe};
 ghost use Rattle.niss_embed.specs.LineFacts.{begins_with_apostrophe, has_half_prime};
 
@@ -99,7 +99,7 @@ fn is_slice_letter(byte: u8) -> bool
 }
 
 /// Whether a byte is a small letter for a turn of an outer block.
-fn is_small_letter(byte: u8) -> bool
+pub fn is_small_letter(byte: u8) -> bool
     ensures { result ≡ is_small_letter byte }
 {
     byte == b'u'
@@ -213,5 +213,19 @@ pub fn check_line(scramble: &[u8], solution: &[u8]) -> CheckAnswer
         (Ok(first), Ok(second)) => check_moves(first, second, forms_of(solution)),
         (Err(fault), _) => CheckAnswer::unread(1, fault),
         (_, Err(fault)) => CheckAnswer::unread(2, fault),
+    }
+}
+
+/// Whether a solution that was read solves the line of a scramble.
+pub fn is_solved(scramble: &[u8], solution: &Niss) -> bool
+    ensures { (line : List ℕ) → IsReadAs line solution.now → result ≡ (check_of scramble.now line).solved }
+{
+    if scramble.len() > MOST_BYTES {
+        return false;
+    }
+    let mut reader = LineReader::new();
+    match read_by(&mut reader, scramble) {
+        Ok(scramble) => solves(scramble, solution),
+        Err(_) => false,
     }
 }

@@ -1,21 +1,22 @@
 //! Whether a part of the steps of an attempt solves its scramble.
 ghost use Rattle.std.specs.Prelude.{◌≡◌, ◌<◌, ◌≤◌, ◌+◌, ◌-◌, ◌++◌, ℕ, List, [], ◌∷◌, Ok, length, map, take};
 ghost use Rattle.niss_moves.specs.Reader.{IsFed, read_line};
-ghost use Rattle.niss_embed.specs.Parts.{read_byte, how_number, number_of_steps, arranged, solves_line, solves_part, solves_repeated, solves_whole, solves_with, part};
+ghost use Rattle.niss_embed.specs.Parts.{read_byte, how_number, number_of_steps, arranged, solves_line, solves_all, solves_part, solves_repeated, solves_with, part};
 ghost use Rattle.niss_shell.specs.Words.{most_bytes};
 ghost use Rattle.niss_embed.specs.Corners.{AreBounds, IsAttempt, IsAroundPart};
 ghost use Rattle.niss_embed.specs.Parts.{IsHow, IsFirst, IsFirstFrom, IsFound, IsWithin, TellsPart, answer_of, no_part};
-ghost use Rattle.niss_embed.specs.declared.parts.Brackets.TheVariants.{Kept};
+ghost use Rattle.niss_embed.specs.declared.step_reading.Reading.TheVariants.{AsWritten};
 
 use crate::answer::Status;
 use crate::line_texts::read_by;
 use crate::repeated_steps::repeated_step;
 use crate::step_bounds::bounds_of;
 use crate::step_corners::{Around, AttemptCorners};
+use crate::step_reading::{Reading, feed, solves_otherwise, solves_so};
 use crate::step_sets::{StepSet, feed_step, least_set};
 use crate::stretch::stretch;
 use niss_moves::{LineReader, Niss};
-use niss_shell::{MOST_BYTES, move_count, solves};
+use niss_shell::MOST_BYTES;
 
 /// The most bytes that steps have in which a part is looked for.
 const MOST_STEP_BYTES: usize = 65_536;
@@ -27,7 +28,7 @@ pub struct PartAnswer {
     /// The number of a `Status`.
     pub status: u8,
     /// 0 if nothing solves, 1 to 3 in the order of `How`, 4 if all steps solve without their brackets, 5 if some in brackets,
-    /// 6 if one is made several times.
+    /// 6 if one is made several times, 7 if their small letters are capitals.
     pub how: u8,
     /// The first step of the part, or of those in brackets, from 0.
     pub first: u8,
@@ -80,27 +81,9 @@ pub enum Found {
     EachInBrackets(StepSet),
     /// All do, and this one is made twice or three times, without its brackets.
     Repeated(usize),
+    /// All do if the small letters of their turns are capitals.
+    InCapitals,
     Nothing,
-}
-
-/// What becomes of the brackets of steps.
-#[derive(Clone, Copy, PartialEq, Eq)]
-pub enum Brackets {
-    Kept,
-    Dropped,
-}
-
-impl Brackets {
-    /// What a byte of steps is read as: a line feed, and a bracket that is dropped, is a blank.
-    fn read(self, byte: u8) -> u8
-        ensures { result ≡ read_byte self byte }
-    {
-        match byte {
-            b'\n' => b' ',
-            b'(' | b')' if self == Brackets::Dropped => b' ',
-            _ => byte,
-        }
-    }
 }
 
 /// The first bytes of a text, so many at most.
@@ -111,46 +94,22 @@ fn first_bytes(text: &[u8], count: usize) -> &[u8]
     &text[..count.min(text.len())]
 }
 
-/// Has a reader read some steps.
-#[inline(never)]
-pub fn feed(reader: &mut LineReader, steps: &[u8], brackets: Brackets)
-    requires { reader.old.fed + length steps.now ≤ 16777216 }
-    ensures fed { reader.new.fed ≡ reader.old.fed + length steps.now }
-    ensures bytes { (front : List ℕ) → IsFed reader.old front → IsFed reader.new (front ++ map (read_byte brackets) steps.now) }
-{
-    for byte in steps {
-        // a fault comes again at the line's end
-        let _ = reader.feed(brackets.read(*byte));
-    }
-}
-
-/// Whether the line that was read has moves, and solves a scramble.
-#[inline(never)]
-pub fn solves_so(scramble: &Niss, reader: &mut LineReader) -> bool
-    ensures { (line : List ℕ) → IsFed reader.old line → result ≡ solves_line (Ok scramble.now) (read_line line) }
-{
-    match reader.end() {
-        Ok(()) => solves(scramble, reader.moves()) && move_count(reader.moves()) > 0,
-        Err(_) => false,
-    }
-}
-
 /// Has a reader read all steps, in three parts, and does with the second one what is to be done.
 fn feed_part(reader: &mut LineReader, how: How, before: &[u8], own: &[u8], after: &[u8])
     requires new { (reader.old.fed ≡ 0) × IsFed reader.old [] }
     requires room { length before.now + length own.now + length after.now < 16777214 }
-    ensures { IsFed reader.new (arranged how (map (read_byte Kept) before.now) (map (read_byte Kept) own.now) (map (read_byte Kept) after.now)) }
+    ensures { IsFed reader.new (arranged how (map (read_byte AsWritten) before.now) (map (read_byte AsWritten) own.now) (map (read_byte AsWritten) after.now)) }
 {
     match how {
-        How::Alone => feed(reader, own, Brackets::Kept),
+        How::Alone => feed(reader, own, Reading::AsWritten),
         How::LeftOut => {
-            feed(reader, before, Brackets::Kept);
-            feed(reader, after, Brackets::Kept);
+            feed(reader, before, Reading::AsWritten);
+            feed(reader, after, Reading::AsWritten);
         }
         How::InBrackets => {
-            feed(reader, before, Brackets::Kept);
+            feed(reader, before, Reading::AsWritten);
             feed_step(reader, own, true);
-            feed(reader, after, Brackets::Kept);
+            feed(reader, after, Reading::AsWritten);
         }
     }
 }
@@ -166,18 +125,6 @@ fn solves_part(scramble: &Niss, text: &[u8], bounds: &[usize], part: Part) -> bo
     let after = stretch(text, bounds[part.behind], bounds[bounds.len() - 1]);
     let mut reader = LineReader::new();
     feed_part(&mut reader, part.how, before, own, after);
-    solves_so(scramble, &mut reader)
-}
-
-/// Whether all steps solve a scramble without their brackets.
-fn solves_whole(scramble: &Niss, text: &[u8], bounds: &[usize]) -> bool
-    requires some { 0 < length bounds.now }
-    requires room { length text.now ≤ 65536 }
-    ensures { result ≡ solves_whole (Ok scramble.now) text.now bounds.now }
-{
-    let mut reader = LineReader::new();
-    let all = stretch(text, 0, bounds[bounds.len() - 1]);
-    feed(&mut reader, all, Brackets::Dropped);
     solves_so(scramble, &mut reader)
 }
 
@@ -280,21 +227,25 @@ fn found_in(scramble: &Niss, text: &[u8], bounds: &[usize]) -> Found
     requires bounds { AreBounds bounds.now }
     requires room { length text.now ≤ 65536 }
     ensures { IsFound (number_of_steps bounds.now) (solves_part (Ok scramble.now) text.now bounds.now)
-        (solves_whole (Ok scramble.now) text.now bounds.now) (solves_with (Ok scramble.now) text.now bounds.now) (solves_repeated (Ok scramble.now) text.now bounds.now) result }
+        (λ reading. solves_all reading (Ok scramble.now) text.now bounds.now) (solves_with (Ok scramble.now) text.now bounds.now) (solves_repeated (Ok scramble.now) text.now bounds.now) result }
 {
     let corners = AttemptCorners::of(scramble, text, bounds);
     if let Some(part) = first_part(scramble, text, bounds, &corners) {
         return Found::Part(part);
     }
-    if solves_whole(scramble, text, bounds) {
+    if solves_otherwise(scramble, text, bounds, Reading::WithoutBrackets) {
         return Found::WithoutBrackets;
     }
     if let Some(set) = least_set(scramble, text, bounds, &corners) {
         return Found::EachInBrackets(set);
     }
-    match repeated_step(scramble, text, bounds, &corners) {
-        Some(step) => Found::Repeated(step),
-        None => Found::Nothing,
+    if let Some(step) = repeated_step(scramble, text, bounds, &corners) {
+        return Found::Repeated(step);
+    }
+    if solves_otherwise(scramble, text, bounds, Reading::InCapitals) {
+        Found::InCapitals
+    } else {
+        Found::Nothing
     }
 }
 
@@ -304,7 +255,7 @@ fn found_after(scramble: &[u8], text: &[u8], bounds: &[usize]) -> Found
     requires bounds { AreBounds bounds.now }
     requires room { (length scramble.now ≤ most_bytes) × (length text.now ≤ 65536) }
     ensures { IsFound (number_of_steps bounds.now) (solves_part (read_line scramble.now) text.now bounds.now)
-        (solves_whole (read_line scramble.now) text.now bounds.now) (solves_with (read_line scramble.now) text.now bounds.now)
+        (λ reading. solves_all reading (read_line scramble.now) text.now bounds.now) (solves_with (read_line scramble.now) text.now bounds.now)
         (solves_repeated (read_line scramble.now) text.now bounds.now) result }
 {
     let mut reader = LineReader::new();
@@ -362,6 +313,11 @@ impl PartAnswer {
                 begin: bounds[step],
                 ..done
             },
+            Found::InCapitals => PartAnswer {
+                how: 7,
+                last: (bounds.len() - 1).saturating_sub(1) as u8,
+                ..done
+            },
             Found::Nothing => done,
         }
     }
@@ -369,7 +325,7 @@ impl PartAnswer {
 
 /// Whether a part of the first steps of an attempt solves its scramble, and which: the first in order of `IsBefore`. Else
 /// whether all do without their brackets; with some in brackets of their own, those with the lowest number; or with one
-/// made twice or three times, the first. Steps stand a line each. What has a fault doesn't solve, and nothing does if the
+/// made twice or three times, the first; or with capitals for the small letters of turns. Steps stand a line each. What has a fault doesn't solve, and nothing does if the
 /// scramble has one. The answer says `Stopped` if the scramble or these steps have too many bytes.
 pub fn solving_part(scramble: &[u8], steps: &[u8]) -> PartAnswer
     ensures { TellsPart scramble.now steps.now result }

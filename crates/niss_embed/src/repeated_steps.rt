@@ -4,10 +4,10 @@ ghost use Rattle.niss_moves.specs.Line.{Moves};
 ghost use Rattle.niss_moves.specs.Reader.{IsFed};
 ghost use Rattle.niss_embed.specs.Corners.{IsAroundPart, IsAttempt, Reads};
 ghost use Rattle.niss_embed.specs.Parts.{IsFirstStep, bare_step, number_of_steps, read_byte, repeated, solves_repeated, solves_so_often};
-ghost use Rattle.niss_embed.specs.declared.parts.Brackets.TheVariants.{Kept, Dropped};
+ghost use Rattle.niss_embed.specs.declared.step_reading.Reading.TheVariants.{AsWritten, WithoutBrackets};
 
-use crate::parts::{Brackets, feed, solves_so};
 use crate::step_corners::{Around, AttemptCorners, StepCorners, corners_of_step};
+use crate::step_reading::{Reading, feed, solves_so};
 use crate::stretch::stretch;
 use niss_moves::{LineReader, Niss};
 
@@ -16,12 +16,12 @@ fn feed_times(reader: &mut LineReader, step: &[u8], thrice: bool)
     requires room { reader.old.fed + 3 * length step.now ≤ 16777216 }
     ensures fed { reader.new.fed ≤ reader.old.fed + 3 * length step.now }
     ensures bytes { (front : List ℕ) → IsFed reader.old front →
-        IsFed reader.new (front ++ repeated thrice (map (read_byte Dropped) step.now)) }
+        IsFed reader.new (front ++ repeated thrice (map (read_byte WithoutBrackets) step.now)) }
 {
-    feed(reader, step, Brackets::Dropped);
-    feed(reader, step, Brackets::Dropped);
+    feed(reader, step, Reading::WithoutBrackets);
+    feed(reader, step, Reading::WithoutBrackets);
     if thrice {
-        feed(reader, step, Brackets::Dropped);
+        feed(reader, step, Reading::WithoutBrackets);
     }
 }
 
@@ -29,11 +29,11 @@ fn feed_times(reader: &mut LineReader, step: &[u8], thrice: bool)
 fn feed_repeated(reader: &mut LineReader, before: &[u8], step: &[u8], after: &[u8], thrice: bool)
     requires new { (reader.old.fed ≡ 0) × IsFed reader.old [] }
     requires room { length before.now + 3 * length step.now + length after.now < 16777214 }
-    ensures { IsFed reader.new (map (read_byte Kept) before.now ++ repeated thrice (map (read_byte Dropped) step.now) ++ map (read_byte Kept) after.now) }
+    ensures { IsFed reader.new (map (read_byte AsWritten) before.now ++ repeated thrice (map (read_byte WithoutBrackets) step.now) ++ map (read_byte AsWritten) after.now) }
 {
-    feed(reader, before, Brackets::Kept);
+    feed(reader, before, Reading::AsWritten);
     feed_times(reader, step, thrice);
-    feed(reader, after, Brackets::Kept);
+    feed(reader, after, Reading::AsWritten);
 }
 
 /// Whether all steps solve a scramble if one is made so often.
@@ -74,7 +74,7 @@ fn corners_of_bare(
     }
     corners_of_step(
         stretch(text, bounds[step], bounds[step + 1]),
-        Brackets::Dropped,
+        Reading::WithoutBrackets,
     )
 }
 

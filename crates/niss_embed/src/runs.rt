@@ -5,7 +5,7 @@ ghost use Rattle.niss_text.specs.Moves.{is_wanted};
 ghost use Rattle.niss_text.specs.declared.moves.MovesOf.TheVariants.{Scramble};
 ghost use Rattle.niss_embed.specs.Runs.{Alike, FindsRun};
 
-use crate::attempts::Judged;
+use crate::judged::Judged;
 use niss_text::TextLine;
 
 /// The kind of a line of a scramble, by the number of `niss_text`.

@@ -1,21 +1,38 @@
 //! What steps of an attempt do to the corners of the cube.
-ghost use Rattle.std.specs.Prelude.{◌≡◌, ◌<◌, ◌≤◌, ◌+◌, ℕ, not, true, false, List, [], ◌++◌, Ok, map, IfSome, length};
+ghost use Rattle.std.specs.Prelude.{◌≡◌, ◌<◌, ◌≤◌, ◌+◌, ℕ, not, true, false, List, [], ◌++◌, ◌&&◌, ◌||◌, Ok, map, IfSome, length};
 ghost use Rattle.niss_moves.specs.Effects.{inverse};
 ghost use Rattle.niss_moves.specs.Line.{Moves, joined_moves};
 ghost use Rattle.niss_moves.specs.Reader.{read_line};
 ghost use Rattle.niss_embed.specs.Corners.{Brings, Reads, has_bracket, AreBounds, AreSteps, IsAround, IsAroundPart, IsAttempt, IsTail, AreTails};
+ghost use Rattle.niss_embed.specs.DeadSteps.{AreParted, IsParted, StandsNowhere, StaysDead};
 ghost use Rattle.niss_embed.specs.Parts.{read_byte, arranged, bare_step, repeated, solves_line, solves_part, solves_so_often, part, in_brackets_if};
-ghost use Rattle.niss_embed.specs.declared.parts.Brackets.TheVariants.{Kept};
+ghost use Rattle.niss_embed.specs.declared.step_reading.Reading.TheVariants.{AsWritten};
 
 use crate::corners::Corners;
+use crate::dead_steps::{are_parted, stands_nowhere};
 use crate::line_facts::has_brackets;
-use crate::parts::{Brackets, How, feed};
+use crate::parts::How;
 use crate::step_bounds::{MOST_BOUNDS, MOST_STEPS};
+use crate::step_reading::{Reading, feed};
 use crate::step_sets::StepSet;
 use crate::stretch::stretch;
 use arrayvec::ArrayVec;
 use niss_moves::laws::{line_is_read, one_reading, rotated_is_tested};
 use niss_moves::{LineReader, Niss, unniss};
+
+/// Whether both hold.
+fn both(one: bool, other: bool) -> bool
+    ensures { result ≡ (one && other) }
+{
+    one && other
+}
+
+/// Whether one holds.
+fn either(one: bool, other: bool) -> bool
+    ensures { result ≡ (one || other) }
+{
+    one || other
+}
 
 /// What bytes of a line do to the corners.
 #[derive(Clone, Copy, Default)]
@@ -28,6 +45,8 @@ pub struct StepCorners {
     pub inverse: Corners,
     /// Whether no bracket opens there.
     pub plain: bool,
+    /// Whether no line of steps can be read in which they stand. They aren't plain then.
+    pub is_dead: bool,
 }
 
 impl StepCorners {
@@ -41,6 +60,21 @@ impl StepCorners {
             undone: Corners::HOME,
             inverse: Corners::HOME,
             plain: true,
+            is_dead: false,
+        }
+    }
+
+    /// Bytes that can't be read.
+    #[inline(never)]
+    fn dead() -> StepCorners
+        ensures { (bytes : List ℕ) → StandsNowhere bytes → Reads bytes result }
+    {
+        StepCorners {
+            normal: Corners::NOWHERE,
+            undone: Corners::NOWHERE,
+            inverse: Corners::NOWHERE,
+            plain: false,
+            is_dead: true,
         }
     }
 
@@ -51,25 +85,28 @@ impl StepCorners {
         ensures undone { Brings result.undone.to (inverse line.now.normal) }
         ensures inverse { Brings result.inverse.to (inverse line.now.bracketed) }
         ensures plain { result.plain ≡ plain }
+        ensures lives { result.is_dead ≡ false }
     {
         StepCorners {
             normal: Corners::after(line.normal()),
             undone: Corners::after_inverse(line.normal()),
             inverse: Corners::after_inverse(line.inverse()),
             plain,
+            is_dead: false,
         }
     }
 
     /// These bytes and then others.
     #[inline(never)]
     pub fn then(&self, next: &StepCorners) -> StepCorners
-        ensures { (bytes more : List ℕ) → Reads bytes self.now → Reads more next.now → Reads (bytes ++ more) result }
+        ensures { (bytes more : List ℕ) → Reads bytes self.now → Reads more next.now → StaysDead bytes more → Reads (bytes ++ more) result }
     {
         StepCorners {
             normal: self.normal.then(&next.normal),
             undone: next.undone.then(&self.undone),
             inverse: next.inverse.then(&self.inverse),
-            plain: self.plain && next.plain,
+            plain: both(self.plain, next.plain),
+            is_dead: either(self.is_dead, next.is_dead),
         }
     }
 
@@ -77,9 +114,12 @@ impl StepCorners {
     /// brackets or not; if it has some, none stand around it.
     #[inline(never)]
     fn with_later(&self, later: &Corners, in_brackets: bool) -> Corners
-        ensures { (bytes more : List ℕ) → Reads bytes self.now → IsTail more later.now.to →
+        ensures { (bytes more : List ℕ) → Reads bytes self.now → IsTail more later.now.to → StaysDead bytes more →
             IsTail (in_brackets_if in_brackets bytes ++ more) result.to }
     {
+        if self.is_dead {
+            return Corners::NOWHERE;
+        }
         if !in_brackets {
             return self.normal.then(&later.then(&self.inverse));
         }
@@ -91,7 +131,8 @@ impl StepCorners {
 
     /// The same of moves that are made twice or three times.
     fn repeated(&self, later: &Corners, thrice: bool) -> Corners
-        ensures { (bytes more : List ℕ) → Reads bytes self.now → IsTail more later.now.to → IsTail (repeated thrice bytes ++ more) result.to }
+        ensures { (bytes more : List ℕ) → Reads bytes self.now → IsTail more later.now.to → IsParted bytes more →
+            IsTail (repeated thrice bytes ++ more) result.to }
     {
         let twice = self.with_later(&self.with_later(later, false), false);
         if !thrice {
@@ -102,31 +143,33 @@ impl StepCorners {
 }
 
 /// Whether no bracket opens in a step once it is read.
-fn is_plain(step: &[u8], brackets: Brackets) -> bool
-    ensures { result ≡ not (has_bracket (map (read_byte brackets) step.now)) }
+fn is_plain(step: &[u8], reading: Reading) -> bool
+    ensures { result ≡ not (has_bracket (map (read_byte reading) step.now)) }
 {
-    match brackets {
-        Brackets::Kept => !has_brackets(step),
-        Brackets::Dropped => true,
+    match reading {
+        Reading::AsWritten => !has_brackets(step),
+        Reading::WithoutBrackets => true,
+        Reading::InCapitals => !has_brackets(step),
     }
 }
 
-/// What a step does, if it is a line by itself.
+/// What a step does, if it is a line by itself, or in none.
 #[inline(never)]
-pub fn corners_of_step(step: &[u8], brackets: Brackets) -> Option<StepCorners>
+pub fn corners_of_step(step: &[u8], reading: Reading) -> Option<StepCorners>
     requires room { length step.now ≤ 65536 }
-    ensures { IfSome result (λ corners. Reads (map (read_byte brackets) step.now) corners) }
+    ensures { IfSome result (λ corners. Reads (map (read_byte reading) step.now) corners) }
 {
     line_is_read();
     let mut reader = LineReader::new();
-    feed(&mut reader, step, brackets);
+    feed(&mut reader, step, reading);
     match reader.end() {
-        Ok(()) => Some(StepCorners::of(reader.moves(), is_plain(step, brackets))),
+        Ok(()) => Some(StepCorners::of(reader.moves(), is_plain(step, reading))),
+        Err(_) if stands_nowhere(step, reading) => Some(StepCorners::dead()),
         Err(_) => None,
     }
 }
 
-/// Adds what each step does, and says whether each is a line by itself.
+/// Adds what each step does, and says whether each is a line by itself, or in none.
 fn are_lines(text: &[u8], bounds: &[usize], steps: &mut ArrayVec<StepCorners, MOST_STEPS>) -> bool
     requires room { length text.now ≤ 65536 }
     requires few { (0 < length bounds.now) × (length bounds.now ≤ 13) }
@@ -137,7 +180,10 @@ fn are_lines(text: &[u8], bounds: &[usize], steps: &mut ArrayVec<StepCorners, MO
 {
     let mut all = true;
     for at in 1..bounds.len() {
-        match corners_of_step(stretch(text, bounds[at - 1], bounds[at]), Brackets::Kept) {
+        match corners_of_step(
+            stretch(text, bounds[at - 1], bounds[at]),
+            Reading::AsWritten,
+        ) {
             Some(step) => steps.push(step),
             None => {
                 steps.push(StepCorners::nothing());
@@ -152,7 +198,7 @@ fn are_lines(text: &[u8], bounds: &[usize], steps: &mut ArrayVec<StepCorners, MO
 #[inline(never)]
 pub fn renew(steps: &[StepCorners], tails: &mut [Corners; MOST_BOUNDS], set: StepSet, count: usize)
     requires { (count ≤ length steps.now) × (length steps.now ≤ 12) }
-    ensures { (text bounds : List ℕ) → AreSteps text bounds steps.now → AreTails text bounds set count tails.old →
+    ensures { (text bounds : List ℕ) → AreSteps text bounds steps.now → AreParted text bounds → AreTails text bounds set count tails.old →
         AreTails text bounds set 0 tails.new }
 {
     for step in (0..count).rev() {
@@ -179,7 +225,7 @@ pub struct AttemptCorners {
     pub steps: ArrayVec<StepCorners, MOST_STEPS>,
     /// The steps from each one on, as they stand.
     pub tails: [Corners; MOST_BOUNDS],
-    /// Whether each step is a line by itself. Else nothing is known of them.
+    /// Whether each step is a line by itself, or in none. Else nothing is known of them.
     pub are_lines: bool,
 }
 
@@ -192,7 +238,10 @@ impl AttemptCorners {
         ensures { IsAttempt result scramble.now text.now bounds.now }
     {
         let mut steps = ArrayVec::new();
-        let are_lines = are_lines(text, bounds, &mut steps);
+        let are_lines = both(
+            are_lines(text, bounds, &mut steps),
+            are_parted(text, bounds),
+        );
         let count = steps.len();
         let mut tails = [Corners::NOWHERE; MOST_BOUNDS];
         tails[count] = Corners::HOME;
@@ -267,7 +316,8 @@ impl<'a> Around<'a> {
 
     /// Where the moves of the line that is made so bring the corners.
     fn line(&self, how: How) -> Corners
-        ensures { (before own after : List ℕ) → IsAround self.now before own after → IsTail (arranged how before own after) result.to }
+        ensures { (before own after : List ℕ) → IsAround self.now before own after → IsParted before (own ++ after) → IsParted own after →
+            IsTail (arranged how before own after) result.to }
     {
         match how {
             How::Alone => self.own.with_later(&Corners::HOME, false),

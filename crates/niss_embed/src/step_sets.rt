@@ -3,10 +3,10 @@ ghost use Rattle.std.specs.Prelude.{◌≡◌, ◌<◌, ◌≤◌, ◌+◌, ◌-
 ghost use Rattle.niss_moves.specs.Reader.{IsFed};
 ghost use Rattle.niss_embed.specs.Corners.{IsAttempt};
 ghost use Rattle.niss_embed.specs.Parts.{IsLeast, has, number_of_steps, first_in, last_in, in_brackets_if, line_with, solves_with, read_byte};
-ghost use Rattle.niss_embed.specs.declared.parts.Brackets.TheVariants.{Kept};
+ghost use Rattle.niss_embed.specs.declared.step_reading.Reading.TheVariants.{AsWritten};
 
-use crate::parts::{Brackets, feed, solves_so};
 use crate::step_corners::{AttemptCorners, renew};
+use crate::step_reading::{Reading, feed, solves_so};
 use crate::stretch::stretch;
 use niss_moves::{LineReader, Niss};
 
@@ -57,14 +57,14 @@ pub fn feed_step(reader: &mut LineReader, step: &[u8], in_brackets: bool)
     requires { reader.old.fed + length step.now ≤ 16777214 }
     ensures fed { reader.new.fed ≤ reader.old.fed + length step.now + 2 }
     ensures bytes { (front : List ℕ) → IsFed reader.old front →
-        IsFed reader.new (front ++ in_brackets_if in_brackets (map (read_byte Kept) step.now)) }
+        IsFed reader.new (front ++ in_brackets_if in_brackets (map (read_byte AsWritten) step.now)) }
 {
     if !in_brackets {
-        return feed(reader, step, Brackets::Kept);
+        return feed(reader, step, Reading::AsWritten);
     }
-    feed(reader, b"(", Brackets::Kept);
-    feed(reader, step, Brackets::Kept);
-    feed(reader, b")", Brackets::Kept);
+    feed(reader, b"(", Reading::AsWritten);
+    feed(reader, step, Reading::AsWritten);
+    feed(reader, b")", Reading::AsWritten);
 }
 
 /// Has a reader read all steps, of which some stand in brackets.

@@ -2,12 +2,12 @@
 use Rattle.std.proofs.Common.{◌≡◌, ℕ, zero, suc, ◌+◌, ◌-◌, ◌<◌, ◌≤◌, ◌⊎◌, inl, inr, Bool, true, false, ◌||◌, List, [], ◌∷◌, ◌++◌, length, take, drop, map, get_or, slice_range, refl, sym, subst, ap, ◌∙◌, rules, append_assoc, length-drop, arith}
 use Rattle.std.specs.List.{All, Contains, concat, list_any}
 use Rattle.std.proofs.Math.Seq.{take-add}
-use Rattle.std.proofs.lemmas.Bool.{false≢true}
 use Rattle.std.proofs.lemmas.Bool.Decides.{nat_tests}
 use Rattle.std.proofs.lemmas.List.{drop-drop, drop-take, take-take, append-nil, get_or-take, length-take, length-take-le, get_or_default, take_all}
 use Rattle.std.proofs.lemmas.List.Elements.{All-append}
 use Rattle.std.proofs.lemmas.List.Folds.{list_any-append, list_any_none, concat-append}
-use Rattle.niss_text.specs.Signs.{HasNoMoves, is_digit, begins_count}
+use Rattle.niss_text.specs.Signs.{HasNoMoves, AreSigns, is_digit, is_spacing, ends_title, begins_count}
+use Rattle.niss_text.proofs.SpacingLemmas.{signs_none, signs_joined, signs_more, signs_empty, spacing_ends}
 use Rattle.niss_text.specs.Doubts.{is_capital}
 use Rattle.niss_text.specs.Kept.{HasNoLetters, BeginNoMoves, HasOnlyWords, IsCount, IsTitleEnd, LosesNone, ArePlain, follows, words_of_count, words_of_head, small}
 unfoldable use Rattle.niss_text.specs.Signs.{is_of_moves}
@@ -38,6 +38,15 @@ passed_none test text rest next size fits left within is none no_other =
     let there : length text - length rest + size ≡ length text - length next = omega (arith, far.0, fits) in
     subst (λ n. list_any test (take n text) ≡ false) there
     (none_more test text (length text - length rest) size none (subst (λ v. list_any test (take size v) ≡ false) left no_other))
+
+pub passed_signs : (test : List ℕ → Bool) (text rest next : List ℕ) (size : ℕ) → length rest ≤ length text → rest ≡ drop (length text - length rest) text →
+    size ≤ length rest → next ≡ drop size rest → AreSigns test (take (length text - length rest) text) → AreSigns test (take size rest) →
+    AreSigns test (take (length text - length next) text)
+passed_signs test text rest next size fits left within is far more =
+    let passed = passed_so_far text rest next size fits left within is in
+    let there : length text - length rest + size ≡ length text - length next = omega (arith, passed.0, fits) in
+    subst (λ n. AreSigns test (take n text)) there
+    (signs_more test text (length text - length rest) size far (subst (λ v. AreSigns test (take size v)) left more))
 
 -- what none is of that many, none is of fewer
 none_fewer : (many few : ℕ → Bool) → ((b : ℕ) → many b ≡ false → few b ≡ false) → (bytes : List ℕ) → list_any many bytes ≡ false → list_any few bytes ≡ false
@@ -167,11 +176,12 @@ number_words line number rest m d e mark first fits digits second end =
 
 -- a number of moves or none, blanks, and a colon
 pub title_end : (line count after rest : List ℕ) (w c e n : ℕ) → count ≡ drop w line → w ≤ length line → c ≤ length count → (0 < c → IsCount (take c count)) → after ≡ drop c count →
-    length rest ≤ length after → rest ≡ drop (length after - length rest) after → HasNoMoves (take (length after - length rest) after) → e ≤ length rest →
-    HasNoMoves (take e rest) → n ≡ length line - length rest + e → IsTitleEnd (slice_range line w n)
+    length rest ≤ length after → rest ≡ drop (length after - length rest) after → AreSigns is_spacing (take (length after - length rest) after) → e ≤ length rest →
+    AreSigns ends_title (take e rest) → n ≡ length line - length rest + e → IsTitleEnd (slice_range line w n)
 title_end line count after rest w c e n first within fits is second left last blanks close end long =
     let b : ℕ = length after - length rest in
-    let empty : HasNoMoves (take (b + e) after) = none_more is_of_moves after b e blanks (subst (λ v. HasNoMoves (take e v)) last end) in
+    let signs : AreSigns ends_title (take (b + e) after) =
+    signs_more ends_title after b e (spacing_ends (take b after) blanks) (subst (λ v. AreSigns ends_title (take e v)) last end) in
     let size : n - w ≡ c + (b + e) = omega (arith, long, ap length first, length-drop w line, ap length second, length-drop c count, fits, left, close, within) in
     record {
       count = take c count;
@@ -179,7 +189,8 @@ title_end line count after rest w c e n first within fits is second left last bl
       whole = ap (λ v. take c count ++ take (b + e) v) second ∙ sym (take-add c (b + e) count) ∙ ap (λ v. take (c + (b + e)) v) first
           ∙ ap (λ k. take k (drop w line)) (sym size);
       counted = by_some c is;
-      empty = empty;
+      empty = signs_empty ends_title (take (b + e) after) signs;
+      signs = signs;
     }
   where
     by_some : (k : ℕ) → (0 < k → IsCount (take k count)) → (take k count ≡ []) ⊎ IsCount (take k count)
@@ -193,6 +204,7 @@ title_none line at = record {
   whole = refl;
   counted = inl refl;
   empty = subst (λ k. HasNoMoves (take k (drop at line))) same refl;
+  signs = subst (λ k. AreSigns ends_title (take k (drop at line))) same (signs_none ends_title);
 }
   where
     same : 0 ≡ at - at
@@ -245,38 +257,40 @@ parts_joined text a b c first second =
     ∙ ap (λ v. slice_range text a b ++ take (c - b) v) (sym (drop-drop (b - a) a text)) ∙ sym (take-add (b - a) (c - b) (drop a text))
     ∙ ap (λ n. take n (drop a text)) size
 
-pub title_more : (bytes blanks : List ℕ) → IsTitleEnd bytes → HasNoMoves blanks → IsTitleEnd (bytes ++ blanks)
-title_more bytes blanks is none = record {
+pub title_more : (bytes blanks : List ℕ) → IsTitleEnd bytes → AreSigns is_spacing blanks → IsTitleEnd (bytes ++ blanks)
+title_more bytes blanks is more = record {
   count = is.count;
   rest = is.rest ++ blanks;
   whole = sym (append_assoc is.count is.rest blanks) ∙ ap (λ v. v ++ blanks) is.whole;
   counted = is.counted;
-  empty = none_joined is_of_moves is.rest blanks is.empty none;
+  empty = none_joined is_of_moves is.rest blanks is.empty (signs_empty is_spacing blanks more);
+  signs = signs_joined ends_title is.rest blanks is.signs (spacing_ends blanks more);
 }
 
-pub title_blank : (bytes : List ℕ) → HasNoMoves bytes → IsTitleEnd bytes
-title_blank bytes none = record {
+pub title_blank : (bytes : List ℕ) → AreSigns is_spacing bytes → IsTitleEnd bytes
+title_blank bytes is = record {
   count = [];
   rest = bytes;
   whole = refl;
   counted = inl refl;
-  empty = none;
+  empty = signs_empty is_spacing bytes is;
+  signs = spacing_ends bytes is;
 }
 
 -- blanks after a label without a colon, or after what stands after it
-pub blank_title : (line : List ℕ) (lead comment b : ℕ) → b ≤ comment - lead → HasNoMoves (take b (slice_range line lead comment)) → IsTitleEnd (slice_range line lead (lead + b))
+pub blank_title : (line : List ℕ) (lead comment b : ℕ) → b ≤ comment - lead → AreSigns is_spacing (take b (slice_range line lead comment)) → IsTitleEnd (slice_range line lead (lead + b))
 blank_title line lead comment b fits none =
-    title_blank (slice_range line lead (lead + b)) (subst (λ v. HasNoMoves v) (part_front line lead comment b fits) none)
+    title_blank (slice_range line lead (lead + b)) (subst (λ v. AreSigns is_spacing v) (part_front line lead comment b fits) none)
 
 -- what ends a label, and blanks after it
 pub whole_title : (line : List ℕ) (begin slashes words title b comment : ℕ) → words ≤ title → title ≤ slashes - begin →
-    IsTitleEnd (slice_range (slice_range line begin slashes) words title) → b ≤ comment - (begin + title) → HasNoMoves (take b (slice_range line (begin + title) comment)) →
+    IsTitleEnd (slice_range (slice_range line begin slashes) words title) → b ≤ comment - (begin + title) → AreSigns is_spacing (take b (slice_range line (begin + title) comment)) →
     IsTitleEnd (slice_range line (begin + words) (begin + title + b))
 whole_title line begin slashes words title b comment order within is fits none =
     subst (λ v. IsTitleEnd v) (parts_joined line (begin + words) (begin + title) (begin + title + b) (omega (arith, order)) (omega arith))
     (title_more (slice_range line (begin + words) (begin + title)) (slice_range line (begin + title) (begin + title + b))
     (subst (λ v. IsTitleEnd v) (part_within line begin slashes words title order within) is)
-    (subst (λ v. HasNoMoves v) (part_front line (begin + title) comment b fits) none))
+    (subst (λ v. AreSigns is_spacing v) (part_front line (begin + title) comment b fits) none))
 
 -- none of some bytes, and none in what is left
 pub none_then : (test : ℕ → Bool) (line rest : List ℕ) (n m : ℕ) → list_any test (take n line) ≡ false → rest ≡ drop n line → list_any test (take m rest) ≡ false →
@@ -309,7 +323,7 @@ part_of_rest text rest a n is =
     let size : n ≡ a + n - a = omega arith in
     ap (λ v. take n v) is ∙ ap (λ k. take k (drop a text)) size
 
-part_from_start : (text : List ℕ) (n : ℕ) → take n text ≡ slice_range text 0 n
+pub part_from_start : (text : List ℕ) (n : ℕ) → take n text ≡ slice_range text 0 n
 part_from_start text n =
     let size : n ≡ n - 0 = omega arith in
     ap (λ k. take k text) size
@@ -346,11 +360,3 @@ rest_of_line text now size a fits within =
     let bytes : List ℕ = take size (drop now text) in
     sym (take_all (size - a) (drop a bytes) (omega (arith, length-drop a bytes, length-take-le size (drop now text) within)))
     ∙ part_of_line text now size a size fits (omega arith)
-
-pub plain_moves : (bytes : List ℕ) → ArePlain bytes → HasNoMoves bytes → ⊥
-unfolding is_of_moves
-plain_moves [] plain none = absurd (false≢true plain.first)
-plain_moves (b ∷ bytes) plain none = capital b plain.first (search (rules, none))
-  where
-    capital : (a : ℕ) → is_capital a ≡ true → is_of_moves a ≡ false → ⊥
-    capital a is not = grind (arith, nat_tests)

@@ -1,9 +1,9 @@
 -- One more part of which it is told which scramble it is of, and which lines it has; and parts that are apart.
 use Rattle.std.proofs.Common.{◌≡◌, ℕ, zero, suc, ◌+◌, ◌<◌, ◌≤◌, ◌⊎◌, inl, inr, Bool, true, false, Option, None, Some, MatchOption, List, [], ◌∷◌, ◌++◌, length, take, set, get_or, refl, sym, subst, ap, ◌∙◌, arith}
-use Rattle.std.proofs.lemmas.Bool.{cases_lt}
-use Rattle.std.proofs.lemmas.List.{take_more_set, get_or_default, get_or-set_same, get_or-set_other}
+use Rattle.std.proofs.lemmas.Bool.{cases_lt, cases_eq}
+use Rattle.std.proofs.lemmas.List.{take_more_set, get_or_default, get_or-set_same, get_or-set_other, length-set}
 use Rattle.niss_text.specs.declared.known.KnownPart.{KnownPart}
-use Rattle.niss_text.specs.Known.{AreApart, AreCounted, IsOwn}
+use Rattle.niss_text.specs.Known.{AreApart, AreCounted, IsAlone, IsCountedAlone, AreAssigned, IsOwn}
 unfoldable use Rattle.niss_text.specs.Known.{AreKnown, HaveLines}
 
 pub known_none : (count : ℕ) → AreKnown count []
@@ -72,19 +72,43 @@ own_by_number is_in_order parts now counts at s none place is there room same fa
     turned (inl top) = inl top
     turned (inr own) = inr (own.0, own.1, λ d. ap (λ (p : KnownPart). p.scramble) (sym (same d) ∙ get_or_default now at d none room) ∙ own.2)
 
--- in memory
-pub own_next : (is_in_order : Bool) (parts now : List KnownPart) (counts : List ℕ) (at : ℕ) (part : KnownPart) → at < length now →
-    ((k : ℕ) (none : KnownPart) → k < at → IsTold is_in_order parts counts k (get_or now k none).scramble) → IsTold is_in_order parts counts at part.scramble →
-    (k : ℕ) (none : KnownPart) → k < at + 1 → IsTold is_in_order parts counts k (get_or (set now at part) k none).scramble
-own_next is_in_order parts now counts at part room far is k none le = by_place (cases_lt k at)
+-- it is of its own, if there is one
+abbrev pub IsFull : Bool → List KnownPart → List ℕ → (place scramble : ℕ) → Type 0
+IsFull true parts counts k s = k < length counts → s ≡ k
+IsFull false parts counts k s = (none : KnownPart) → (get_or parts k none).scramble < length counts → get_or counts (get_or parts k none).scramble 0 ≡ 1 →
+    s ≡ (get_or parts k none).scramble
+
+pub full_in_order : (is_in_order : Bool) (parts now : List KnownPart) (counts : List ℕ) (at s : ℕ) (none : KnownPart) (place : Option ℕ) →
+    is_in_order ≡ true → place ≡ Some at →
+    MatchOption place ((get_or now at none).scramble < length counts → get_or counts (get_or now at none).scramble 0 ≡ 1 → s ≡ (get_or now at none).scramble) (λ a. a < length counts → s ≡ a) →
+    IsFull is_in_order parts counts at s
+full_in_order is_in_order parts now counts at s none place is there far =
+    subst (λ (b : Bool). IsFull b parts counts at s) (sym is)
+    (subst (λ (p : Option ℕ). MatchOption p ((get_or now at none).scramble < length counts → get_or counts (get_or now at none).scramble 0 ≡ 1 → s ≡ (get_or now at none).scramble) (λ a. a < length counts → s ≡ a)) there far)
+
+pub full_by_number : (is_in_order : Bool) (parts now : List KnownPart) (counts : List ℕ) (at s : ℕ) (none : KnownPart) (place : Option ℕ) →
+    is_in_order ≡ false → place ≡ None → at < length now → ((d : KnownPart) → get_or now at d ≡ get_or parts at d) →
+    MatchOption place ((get_or now at none).scramble < length counts → get_or counts (get_or now at none).scramble 0 ≡ 1 → s ≡ (get_or now at none).scramble) (λ a. a < length counts → s ≡ a) →
+    IsFull is_in_order parts counts at s
+full_by_number is_in_order parts now counts at s none place is there room same far =
+    subst (λ (b : Bool). IsFull b parts counts at s) (sym is)
+    (λ d. subst (λ (n : ℕ). n < length counts → get_or counts n 0 ≡ 1 → s ≡ n) (ap (λ (p : KnownPart). p.scramble) (get_or_default now at none d room ∙ same d)) turned)
   where
-    by_place : (k < at) ⊎ (at ≤ k) → IsTold is_in_order parts counts k (get_or (set now at part) k none).scramble
-    by_place (inl before) =
-        subst (λ (p : KnownPart). IsTold is_in_order parts counts k p.scramble) (sym (get_or-set_other now at k part none (λ e. omega (arith, e, before)))) (far k none before)
+    turned : (get_or now at none).scramble < length counts → get_or counts (get_or now at none).scramble 0 ≡ 1 → s ≡ (get_or now at none).scramble
+    turned = subst (λ (p : Option ℕ). MatchOption p ((get_or now at none).scramble < length counts → get_or counts (get_or now at none).scramble 0 ≡ 1 → s ≡ (get_or now at none).scramble) (λ a. a < length counts → s ≡ a)) there far
+
+-- what is so of the places and scrambles of some parts, with one more in memory
+pub each_next : (P : ℕ → ℕ → Type 0) (now : List KnownPart) (at : ℕ) (part : KnownPart) → at < length now →
+    ((k : ℕ) (none : KnownPart) → k < at → P k (get_or now k none).scramble) → P at part.scramble →
+    (k : ℕ) (none : KnownPart) → k < at + 1 → P k (get_or (set now at part) k none).scramble
+each_next P now at part room far is k none le = by_place (cases_lt k at)
+  where
+    by_place : (k < at) ⊎ (at ≤ k) → P k (get_or (set now at part) k none).scramble
+    by_place (inl before) = subst (λ (p : KnownPart). P k p.scramble) (sym (get_or-set_other now at k part none (λ e. omega (arith, e, before)))) (far k none before)
     by_place (inr here) =
         let same : at ≡ k = omega (arith, le, here) in
-        subst (λ (n : ℕ). IsTold is_in_order parts counts n (get_or (set now at part) n none).scramble) same
-        (subst (λ (p : KnownPart). IsTold is_in_order parts counts at p.scramble) (sym (get_or-set_same now at part none room)) is)
+        subst (λ (n : ℕ). P n (get_or (set now at part) n none).scramble) same
+        (subst (λ (p : KnownPart). P at p.scramble) (sym (get_or-set_same now at part none room)) is)
 
 pub rest_next : (parts now : List KnownPart) (at : ℕ) (part : KnownPart) → ((k : ℕ) (none : KnownPart) → at ≤ k → get_or now k none ≡ get_or parts k none) →
     (k : ℕ) (none : KnownPart) → at + 1 ≤ k → get_or (set now at part) k none ≡ get_or parts k none
@@ -103,3 +127,167 @@ are_apart is_in_order parts now counts long counted far i j none before within s
     by_own true (inr one) (inr two) = absurd (omega (arith, one, two, same, before))
     by_own false (inr one) (inr two) =
         absurd (counted (get_or now i none).scramble one.0 one.1 i j none before (omega (arith, within, long)) (one.2 none) (two.2 none ∙ sym same))
+
+-- the only part of a scramble that is counted once
+counted_alone : (parts : List KnownPart) (counts : List ℕ) (k s : ℕ) (none : KnownPart) → AreCounted parts counts → k < length parts →
+    s < length counts → get_or counts s 0 ≡ 1 → (get_or parts k none).scramble ≡ s → IsAlone (λ j. (get_or parts j none).scramble) (length parts) k
+counted_alone parts counts k s none counted room low once is j lt same = by_place (cases_lt j k) (cases_lt k j)
+  where
+    by_place : (j < k) ⊎ (k ≤ j) → (k < j) ⊎ (j ≤ k) → j ≡ k
+    by_place (inl before) _ = absurd (counted s low once j k none before room (same ∙ is) is)
+    by_place (inr one) (inl after) = absurd (counted s low once k j none after lt is (same ∙ is))
+    by_place (inr one) (inr two) = omega (arith, one, two)
+
+-- Parts that are told their own scrambles, and all of them, are assigned by what they said.
+pub are_assigned : (is_in_order : Bool) (parts now : List KnownPart) (counts : List ℕ) (count : ℕ) (none : KnownPart) → length now ≡ length parts →
+    length counts ≡ count → AreCounted parts counts → IsCountedAlone parts counts →
+    ((k : ℕ) (d : KnownPart) → k < length now → IsTold is_in_order parts counts k (get_or now k d).scramble) →
+    ((k : ℕ) (d : KnownPart) → k < length now → IsFull is_in_order parts counts k (get_or now k d).scramble) →
+    AreAssigned is_in_order count (λ k. (get_or parts k none).scramble) now
+are_assigned is_in_order parts now counts count none long counted once alone own all = record {
+  in_order = λ is k d lt low. subst (λ (b : Bool). IsFull b parts counts k (get_or now k d).scramble) is (all k d lt) (omega (arith, low, counted));
+  only = λ is k d lt. by_number k d lt (subst (λ (b : Bool). IsTold b parts counts k (get_or now k d).scramble) is (own k d lt));
+  all = λ is k d lt low single. subst (λ (b : Bool). IsFull b parts counts k (get_or now k d).scramble) is (all k d lt) none (omega (arith, low, counted))
+      (alone k none (omega (arith, lt, long)) (omega (arith, low, counted)) (λ j le same. single j (omega (arith, le, long)) same));
+}
+  where
+    by_number : (k : ℕ) (d : KnownPart) → k < length now → IsTold false parts counts k (get_or now k d).scramble →
+        ((get_or now k d).scramble ≡ 18446744073709551615)
+        ⊎ (((get_or now k d).scramble ≡ (get_or parts k none).scramble) × IsAlone (λ j. (get_or parts j none).scramble) (length now) k)
+    by_number k d lt (inl top) = inl top
+    by_number k d lt (inr is) = inr (
+      sym (is.2 none),
+      λ j le same.
+          counted_alone parts counts k (get_or now k d).scramble none once (omega (arith, lt, long)) is.0 is.1 (is.2 none) j (omega (arith, le, long)) same,
+    )
+
+-- What counts say of so many parts: 0 of a scramble that none of them says, 1 of one that one alone says.
+abbrev pub CountNone : List KnownPart → List ℕ → ℕ → Type 0
+CountNone parts counts n = (s : ℕ) → s < length counts → ((k : ℕ) (d : KnownPart) → k < n → (get_or parts k d).scramble ≡ s → ⊥) → get_or counts s 0 ≡ 0
+
+abbrev pub CountAlone : List KnownPart → List ℕ → ℕ → Type 0
+CountAlone parts counts n = (k : ℕ) (d : KnownPart) → k < n → (get_or parts k d).scramble < length counts →
+    IsAlone (λ j. (get_or parts j d).scramble) n k → get_or counts (get_or parts k d).scramble 0 ≡ 1
+
+-- one more part, which says one of the scrambles
+pub none_counted : (parts : List KnownPart) (counts : List ℕ) (n value : ℕ) → n < length parts → CountNone parts counts n →
+    (d : KnownPart) → CountNone parts (set counts (get_or parts n d).scramble value) (n + 1)
+none_counted parts counts n value room none d s low far =
+    get_or-set_other counts (get_or parts n d).scramble s value 0 (λ e. far n d (omega arith) (sym e))
+    ∙ none s (omega (arith, low, length-set counts (get_or parts n d).scramble value)) (λ k e lt same. far k e (omega (arith, lt)) same)
+
+pub alone_counted : (parts : List KnownPart) (counts : List ℕ) (n value : ℕ) (p : KnownPart) → n < length parts → CountNone parts counts n →
+    CountAlone parts counts n → (get_or parts n p).scramble < length counts → (get_or counts (get_or parts n p).scramble 0 ≡ 0 → value ≡ 1) →
+    CountAlone parts (set counts (get_or parts n p).scramble value) (n + 1)
+alone_counted parts counts n value p room none one within more k d lt low alone = by_place (cases_lt k n)
+  where
+    same_part : get_or parts n p ≡ get_or parts n d
+    same_part = get_or_default parts n p d room
+
+    long : length (set counts (get_or parts n p).scramble value) ≡ length counts
+    long = length-set counts (get_or parts n p).scramble value
+
+    unsaid : k ≡ n → (j : ℕ) (e : KnownPart) → j < n → (get_or parts j e).scramble ≡ (get_or parts n p).scramble → ⊥
+    unsaid here j e before said =
+        let again : j ≡ k = alone j (omega (arith, before)) (ap (λ (q : KnownPart). q.scramble) (get_or_default parts j d e (omega (arith, before, room)))
+        ∙ said ∙ ap (λ (q : KnownPart). q.scramble) same_part ∙ ap (λ m. (get_or parts m d).scramble) (sym here)) in
+        absurd (omega (arith, again, here, before))
+
+    by_place : (k < n) ⊎ (n ≤ k) → get_or (set counts (get_or parts n p).scramble value) (get_or parts k d).scramble 0 ≡ 1
+    by_place (inl before) =
+        get_or-set_other counts (get_or parts n p).scramble (get_or parts k d).scramble value 0
+        (λ e. let again : n ≡ k = alone n (omega arith) (ap (λ (q : KnownPart). q.scramble) (sym same_part) ∙ sym e) in absurd (omega (arith, again, before)))
+        ∙ one k d before (omega (arith, low, long)) (λ j le same. alone j (omega (arith, le)) same)
+    by_place (inr after) =
+        let here : k ≡ n = omega (arith, lt, after) in
+        ap (λ m. get_or (set counts (get_or parts n p).scramble value) m 0)
+        (ap (λ m. (get_or parts m d).scramble) here ∙ ap (λ (q : KnownPart). q.scramble) (sym same_part))
+        ∙ get_or-set_same counts (get_or parts n p).scramble value 0 within
+        ∙ more (none (get_or parts n p).scramble within (unsaid here))
+
+-- no part says a scramble that is counted never, no two one that is counted once
+abbrev pub SaidNone : List KnownPart → List ℕ → ℕ → Type 0
+SaidNone parts counts n = (s : ℕ) → s < length counts → get_or counts s 0 ≡ 0 → (k : ℕ) (d : KnownPart) → k < n → (get_or parts k d).scramble ≡ s → ⊥
+
+abbrev pub SaidOnce : List KnownPart → List ℕ → ℕ → Type 0
+SaidOnce parts counts n = (s : ℕ) → s < length counts → get_or counts s 0 ≡ 1 → (i j : ℕ) (d : KnownPart) → i < j → j < n →
+    (get_or parts i d).scramble ≡ s → (get_or parts j d).scramble ≡ s → ⊥
+
+pub none_said : (parts : List KnownPart) (counts : List ℕ) (n value : ℕ) (p : KnownPart) → n < length parts → SaidNone parts counts n →
+    (get_or parts n p).scramble < length counts → (value ≡ 0 → ⊥) → SaidNone parts (set counts (get_or parts n p).scramble value) (n + 1)
+none_said parts counts n value p room none within some s low never k d lt same = by_scramble (cases_eq (get_or parts n p).scramble s)
+  where
+    long : length (set counts (get_or parts n p).scramble value) ≡ length counts
+    long = length-set counts (get_or parts n p).scramble value
+
+    by_place : ((get_or parts n p).scramble ≡ s → ⊥) → (k < n) ⊎ (n ≤ k) → ⊥
+    by_place other (inl before) = none s (omega (arith, low, long))
+        (sym (get_or-set_other counts (get_or parts n p).scramble s value 0 (λ e. other (sym e))) ∙ never) k d before same
+    by_place other (inr after) =
+        let there : n ≡ k = omega (arith, lt, after) in
+        other (ap (λ (q : KnownPart). q.scramble) (get_or_default parts n p d room) ∙ ap (λ m. (get_or parts m d).scramble) there ∙ same)
+
+    by_scramble : ((get_or parts n p).scramble ≡ s) ⊎ ((get_or parts n p).scramble ≡ s → ⊥) → ⊥
+    by_scramble (inl here) = some (sym (get_or-set_same counts (get_or parts n p).scramble value 0 within)
+        ∙ ap (λ m. get_or (set counts (get_or parts n p).scramble value) m 0) here ∙ never)
+    by_scramble (inr other) = by_place other (cases_lt k n)
+
+pub once_said : (parts : List KnownPart) (counts : List ℕ) (n value : ℕ) (p : KnownPart) → n < length parts → SaidNone parts counts n → SaidOnce parts counts n →
+    (get_or parts n p).scramble < length counts → (value ≡ 1 → get_or counts (get_or parts n p).scramble 0 ≡ 0) →
+    SaidOnce parts (set counts (get_or parts n p).scramble value) (n + 1)
+once_said parts counts n value p room none once within first s low one i j d before lt is_i is_j = by_scramble (cases_eq (get_or parts n p).scramble s)
+  where
+    long : length (set counts (get_or parts n p).scramble value) ≡ length counts
+    long = length-set counts (get_or parts n p).scramble value
+
+    by_place : ((get_or parts n p).scramble ≡ s → ⊥) → (j < n) ⊎ (n ≤ j) → ⊥
+    by_place other (inl far) = once s (omega (arith, low, long))
+        (sym (get_or-set_other counts (get_or parts n p).scramble s value 0 (λ e. other (sym e))) ∙ one) i j d before far is_i is_j
+    by_place other (inr after) =
+        let there : n ≡ j = omega (arith, lt, after) in
+        other (ap (λ (q : KnownPart). q.scramble) (get_or_default parts n p d room) ∙ ap (λ m. (get_or parts m d).scramble) there ∙ is_j)
+
+    by_scramble : ((get_or parts n p).scramble ≡ s) ⊎ ((get_or parts n p).scramble ≡ s → ⊥) → ⊥
+    by_scramble (inl here) =
+        let value_is : value ≡ 1 = sym (get_or-set_same counts (get_or parts n p).scramble value 0 within)
+        ∙ ap (λ m. get_or (set counts (get_or parts n p).scramble value) m 0) here ∙ one in
+        none (get_or parts n p).scramble within (first value_is) i d (omega (arith, before, lt)) (is_i ∙ sym here)
+    by_scramble (inr other) = by_place other (cases_lt j n)
+
+pub none_unsaid : (parts : List KnownPart) (counts : List ℕ) (n : ℕ) (p : KnownPart) → n < length parts → length counts ≤ (get_or parts n p).scramble →
+    SaidNone parts counts n → SaidNone parts counts (n + 1)
+none_unsaid parts counts n p room beyond none s low never k d lt same = by_place (cases_lt k n)
+  where
+    by_place : (k < n) ⊎ (n ≤ k) → ⊥
+    by_place (inl before) = none s low never k d before same
+    by_place (inr after) =
+        let there : n ≡ k = omega (arith, lt, after) in
+        let said : (get_or parts n p).scramble ≡ s = ap (λ (q : KnownPart). q.scramble) (get_or_default parts n p d room) ∙ ap (λ m. (get_or parts m d).scramble) there ∙ same in
+        absurd (omega (arith, said, low, beyond))
+
+pub once_unsaid : (parts : List KnownPart) (counts : List ℕ) (n : ℕ) (p : KnownPart) → n < length parts → length counts ≤ (get_or parts n p).scramble →
+    SaidOnce parts counts n → SaidOnce parts counts (n + 1)
+once_unsaid parts counts n p room beyond once s low one i j d before lt is_i is_j = by_place (cases_lt j n)
+  where
+    by_place : (j < n) ⊎ (n ≤ j) → ⊥
+    by_place (inl far) = once s low one i j d before far is_i is_j
+    by_place (inr after) =
+        let there : n ≡ j = omega (arith, lt, after) in
+        let said : (get_or parts n p).scramble ≡ s = ap (λ (q : KnownPart). q.scramble) (get_or_default parts n p d room) ∙ ap (λ m. (get_or parts m d).scramble) there ∙ is_j in
+        absurd (omega (arith, said, low, beyond))
+
+-- one more part, which says none of them
+pub none_beyond : (parts : List KnownPart) (counts : List ℕ) (n : ℕ) → CountNone parts counts n → CountNone parts counts (n + 1)
+none_beyond parts counts n none s low far = none s low (λ k d lt same. far k d (omega (arith, lt)) same)
+
+pub alone_beyond : (parts : List KnownPart) (counts : List ℕ) (n : ℕ) (p : KnownPart) → n < length parts → length counts ≤ (get_or parts n p).scramble →
+    CountAlone parts counts n → CountAlone parts counts (n + 1)
+alone_beyond parts counts n p room beyond one k d lt low alone = by_place (cases_lt k n)
+  where
+    by_place : (k < n) ⊎ (n ≤ k) → get_or counts (get_or parts k d).scramble 0 ≡ 1
+    by_place (inl before) = one k d before low (λ j le same. alone j (omega (arith, le)) same)
+    by_place (inr after) =
+        let here : k ≡ n = omega (arith, lt, after) in
+        let said : (get_or parts k d).scramble ≡ (get_or parts n p).scramble =
+        ap (λ m. (get_or parts m d).scramble) here ∙ ap (λ (q : KnownPart). q.scramble) (get_or_default parts n d p room) in
+        absurd (omega (arith, said, low, beyond))

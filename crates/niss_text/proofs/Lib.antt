@@ -1,5 +1,6 @@
 pub mod SignLemmas
 pub mod PlainLemmas
+pub mod LabelLemmas
 pub mod LineLemmas
 pub mod KeptLemmas
 pub mod WordLemmas
@@ -7,3 +8,9 @@ pub mod ToldLemmas
 pub mod DoubtLemmas
 pub mod MovesLemmas
 pub mod KnownLemmas
+pub mod HeadLemmas
+pub mod NameLemmas
+pub mod CommentLemmas
+pub mod SpacingLemmas
+pub mod TurnLemmas
+pub mod HeadsOfLines

@@ -12,13 +12,13 @@ unfolding Covers
 covers_none text at = refl
 
 pub covers_more : (text : List ℕ) (from : ℕ) (lines : List TextLine) (to : ℕ) (line : TextLine) (size : ℕ) → Covers text from lines to → IsLine to line → IsTold text line →
-    line.end ≡ to + size → IsUnbroken text to size → Covers text from (lines ++ line ∷ []) (line.end + end_size text line.end)
+    line.end ≡ to + size → IsUnbroken text to size → IsEnd text line.end → Covers text from (lines ++ line ∷ []) (line.end + end_size text line.end)
 unfolding Covers
-covers_more text from [] to line size same is told end whole =
-    subst (λ (at : ℕ). IsLine at line × (IsTold text line × ((n : ℕ) × (line.end ≡ at + n) × IsUnbroken text at n × (line.end + end_size text line.end ≡ line.end + end_size text line.end))))
-    (sym same) (is, (told, (size, end, whole, refl)))
-covers_more text from (l ∷ ls) to line size far is told end whole =
-    (far.0, (far.1.0, (far.1.1.0, far.1.1.1, far.1.1.2, covers_more text (l.end + end_size text l.end) ls to line size far.1.1.3 is told end whole)))
+covers_more text from [] to line size same is told end whole ended =
+    subst (λ (at : ℕ). IsLine at line × (IsTold text line × ((n : ℕ) × (line.end ≡ at + n) × IsUnbroken text at n × IsEnd text line.end
+    × (line.end + end_size text line.end ≡ line.end + end_size text line.end)))) (sym same) (is, (told, (size, end, whole, ended, refl)))
+covers_more text from (l ∷ ls) to line size far is told end whole ended =
+    (far.0, (far.1.0, (far.1.1.0, far.1.1.1, far.1.1.2, far.1.1.3, covers_more text (l.end + end_size text l.end) ls to line size far.1.1.4 is told end whole ended)))
 
 -- what ends a line in the rest of a text ends it in the text
 end_size_at : (text : List ℕ) (now size : ℕ) → end_size (drop now text) size ≡ end_size text (now + size)
@@ -40,12 +40,14 @@ line_ends text now size whole line end all =
 -- the same in memory: a line is cut from the rest of a text
 pub covers_next : (text : List ℕ) (lines : List TextLine) (count now size whole : ℕ) (line : TextLine) → count < length lines →
     Covers text 0 (take count lines) now → IsLine now line → IsTold text line → line.end ≡ now + size → IsUnbroken (drop now text) 0 size →
-    whole ≡ size + end_size (drop now text) size → Covers text 0 (take (count + 1) (set lines count line)) (now + whole)
-covers_next text lines count now size whole line room far is told end unbroken all =
+    whole ≡ size + end_size (drop now text) size → IsEnd (drop now text) size → Covers text 0 (take (count + 1) (set lines count line)) (now + whole)
+covers_next text lines count now size whole line room far is told end unbroken all ends =
     let there : line.end + end_size text line.end ≡ now + whole = line_ends text now size whole line end all in
     let broken : IsUnbroken text now size = λ k lt. ap (λ b. ends_line b) (sym (get_or-drop now text k 0)) ∙ ap (λ n. ends_line (get_or (drop now text) n 0)) (sym (zero-add k)) ∙ unbroken k lt in
+    let ended : IsEnd text (now + size) = λ lt. ap (λ b. ends_line b) (sym (get_or-drop now text size 0)) ∙ ends (omega (arith, lt, length-drop now text)) in
     subst (λ (ls : List TextLine). Covers text 0 ls (now + whole)) (sym (take_more_set lines count line room))
-    (subst (λ (n : ℕ). Covers text 0 (take count lines ++ line ∷ []) n) there (covers_more text 0 (take count lines) now line size far is told end broken))
+    (subst (λ (n : ℕ). Covers text 0 (take count lines ++ line ∷ []) n) there (covers_more text 0 (take count lines) now line size far is told end broken
+    (subst (λ (n : ℕ). IsEnd text n) (sym end) ended)))
 
 takes_more : (text : List ℕ) (from : ℕ) (lines : List TextLine) (to : ℕ) (line : TextLine) (size : ℕ) → Takes text from lines to → IsLine to line → IsTold text line →
     line.end ≡ to + size → IsUnbroken text to size → IsEnd text line.end → Takes text from (lines ++ line ∷ []) (line.end + end_size text line.end)

@@ -55,7 +55,7 @@ pub one_line : (text part : List ℕ) (line : TextLine) (from : Beginning) (gap 
     AddsLine text line gap before b0 b3 p0 p3 l0 l2 last
 one_line text part line from gap before b0 b1 b2 b3 p0 p1 p2 p3 l0 around l1 rest l2 last at among is begun placed puts ended closed told joined all first far without = record {
   parts = puts.parts;
-  are_moves = record { are_pieces = puts.are_pieces; untitled = puts.untitled among; whole = puts.whole ∙ is };
+  are_moves = record { are_pieces = puts.are_pieces; stay = puts.stay; untitled = puts.untitled among; whole = puts.whole ∙ is };
   bytes_are = whole;
   places_are = sym (four p0 (place_after before) (opening_place line) (places_of line.moves puts.parts) (closing_place line))
       ∙ ap (λ v. (v ++ places_of line.moves puts.parts) ++ closing_place line) (sym placed)

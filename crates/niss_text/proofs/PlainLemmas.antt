@@ -1,16 +1,17 @@
 -- A text as far as it is read, and one more piece of it.
-use Rattle.std.proofs.Common.{◌≡◌, ℕ, ◌+◌, ◌-◌, ◌<◌, ◌≤◌, false, List, [], ◌∷◌, ◌++◌, length, take, drop, replicate, refl, sym, ap, ◌∙◌, append_assoc, add-zero, arith, length-append}
+use Rattle.std.proofs.Common.{◌≡◌, ℕ, ◌+◌, ◌-◌, ◌<◌, ◌≤◌, false, List, [], ◌∷◌, ◌++◌, length, take, drop, replicate, refl, sym, subst, ap, ◌∙◌, append_assoc, add-zero, arith, length-append}
 use Rattle.std.proofs.Math.Bool.{or_assoc, or_comm}
 use Rattle.std.proofs.lemmas.List.{append-nil, take-append-drop, length-take-le, drop-drop}
 use Rattle.niss_text.specs.declared.piece.Piece.{Piece}
 use Rattle.niss_text.specs.declared.piece.Place.TheVariants.{Among}
 use Rattle.niss_text.specs.declared.left_out.LeftOut.{LeftOut}
 use Rattle.niss_text.specs.declared.pen.Beginning.{Beginning}
-use Rattle.niss_text.specs.Pieces.{Part, part, IsPiece, IsFirst, written, is_title}
+use Rattle.niss_text.specs.declared.piece.Piece.TheVariants.{Kept}
+use Rattle.niss_text.specs.Pieces.{Part, part, IsPiece, IsFirst, MayStay, written, is_title}
 use Rattle.niss_text.specs.LeftOut.{left_none, left_of, both, bits_of}
 use Rattle.niss_text.specs.Plain.{IsPlain}
 use Rattle.niss_text.specs.Written.{PutsPart}
-unfoldable use Rattle.niss_text.specs.Pieces.{text_of, line_of, places_of, ArePieces, HasNoTitle}
+unfoldable use Rattle.niss_text.specs.Pieces.{text_of, line_of, places_of, ArePieces, StayRightly, HasNoTitle}
 unfoldable use Rattle.niss_text.specs.LeftOut.{left_of_all}
 
 text_more : (ps : List Part) (p : Part) → text_of (ps ++ p ∷ []) ≡ text_of ps ++ p.bytes
@@ -41,6 +42,15 @@ pieces_more : (ps : List Part) (p : Part) → ArePieces ps → 0 < length p.byte
 unfolding ArePieces
 pieces_more [] p all some one = (some, one, tt)
 pieces_more (q ∷ ps) p all some one = (all.0, all.1, pieces_more ps p all.2 some one)
+
+stay_more : (ps : List Part) (p : Part) (rest : List ℕ) → StayRightly ps (p.bytes ++ rest) → (p.kind ≡ Kept → MayStay (p.bytes ++ rest)) →
+    StayRightly (ps ++ p ∷ []) rest
+unfolding StayRightly text_of
+stay_more [] p rest all one = (one, tt)
+stay_more (q ∷ ps) p rest all one =
+    let same : text_of ps ++ (p.bytes ++ rest) ≡ text_of (ps ++ p ∷ []) ++ rest =
+    sym (append_assoc (text_of ps) p.bytes rest) ∙ ap (λ v. v ++ rest) (sym (text_more ps p)) in
+    (subst (λ v. q.kind ≡ Kept → MayStay (q.bytes ++ v)) same all.0, stay_more ps p rest all.1 one)
 
 untitled_more : (ps : List Part) (p : Part) → HasNoTitle ps → is_title p.kind ≡ false → HasNoTitle (ps ++ p ∷ [])
 unfolding HasNoTitle
@@ -76,6 +86,7 @@ left_more (q ∷ ps) p = ap (λ v. both (left_of q.kind) v) (left_more ps p) ∙
 pub record SoFar (part rest : List ℕ) (from : Beginning) (before bytes places_before places : List ℕ) (left : LeftOut) : Type 0 where
   pub parts : List Part
   pub are_pieces : ArePieces parts
+  pub stay : StayRightly parts rest
   pub untitled : from.place ≡ Among → HasNoTitle parts
   pub whole : text_of parts ++ rest ≡ part
   pub bytes_are : before ++ line_of parts ≡ bytes
@@ -84,10 +95,11 @@ pub record SoFar (part rest : List ℕ) (from : Beginning) (before bytes places_
 
 pub nothing_read : (text : List ℕ) (from : Beginning) (before places_before : List ℕ) (left : LeftOut) → left ≡ left_none →
     SoFar text text from before before places_before places_before left
-unfolding text_of line_of places_of ArePieces HasNoTitle left_of_all
+unfolding text_of line_of places_of ArePieces StayRightly HasNoTitle left_of_all
 nothing_read text from before places_before left none = record {
   parts = [];
   are_pieces = tt;
+  stay = tt;
   untitled = λ among. tt;
   whole = refl;
   bytes_are = append-nil before;
@@ -106,6 +118,8 @@ one_more text rest from before bytes places_before places left kind n at w far f
     record {
       parts = ps ++ p ∷ [];
       are_pieces = pieces_more ps p far.are_pieces (omega (arith, length-take-le n rest first.fits, first.some)) first.is;
+      stay = stay_more ps p (drop n rest) (subst (λ v. StayRightly ps v) (sym (take-append-drop n rest)) far.stay)
+          (subst (λ v. kind ≡ Kept → MayStay v) (sym (take-append-drop n rest)) first.stays);
       untitled = λ among. untitled_more ps p (far.untitled among) (untitled among);
       whole = ap (λ v. v ++ drop n rest) (text_more ps p) ∙ append_assoc (text_of ps) (take n rest) (drop n rest)
           ∙ ap (λ v. text_of ps ++ v) (take-append-drop n rest) ∙ far.whole;
@@ -123,6 +137,7 @@ pub all_read : (part : List ℕ) (from : Beginning) (before bytes places_before 
 all_read text from before bytes places_before places left far = record {
   parts = far.parts;
   are_pieces = far.are_pieces;
+  stay = far.stay;
   untitled = far.untitled;
   whole = sym (append-nil (text_of far.parts)) ∙ far.whole;
   bytes_are = far.bytes_are;
@@ -135,6 +150,7 @@ pub so_far_is : (part : List ℕ) (from : Beginning) (before places_before rest 
 so_far_is text from before places_before rest bytes places rest' bytes' places' left left' r l p g far = record {
   parts = far.parts;
   are_pieces = far.are_pieces;
+  stay = subst (λ v. StayRightly far.parts v) (sym r) far.stay;
   untitled = far.untitled;
   whole = ap (λ v. text_of far.parts ++ v) r ∙ far.whole;
   bytes_are = far.bytes_are ∙ sym l;
@@ -148,6 +164,7 @@ pub whole_text : (text : List ℕ) (from : Beginning) (bytes places : List ℕ) 
 whole_text text from bytes places left out begins puts told = record {
   parts = puts.parts;
   are_pieces = puts.are_pieces;
+  stay = puts.stay;
   whole = puts.whole;
   line_is = puts.bytes_are;
   places_are = ap (λ at. places_of at puts.parts) (sym begins) ∙ puts.places_are;

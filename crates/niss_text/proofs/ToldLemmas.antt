@@ -1,13 +1,14 @@
 -- What is seen of a line holds of it in its text.
-use Rattle.std.proofs.Common.{◌≡◌, ℕ, zero, suc, ◌+◌, ◌≤◌, ◌⊎◌, inl, inr, true, false, List, length, take, drop, slice_range, refl, sym, subst, ap, ◌∙◌, add-zero, arith}
+use Rattle.std.proofs.Common.{◌≡◌, ℕ, zero, suc, ◌+◌, ◌≤◌, ◌⊎◌, inl, inr, true, false, List, length, take, drop, get_or, slice_range, refl, sym, subst, ap, ◌∙◌, add-zero, arith}
 use Rattle.std.proofs.lemmas.Bool.{false≢true}
 use Rattle.niss_text.specs.Signs.{HasNoMoves}
-use Rattle.niss_text.specs.Doubts.{IsDoubted}
-use Rattle.niss_text.specs.Kept.{BeginNoMoves, HasOnlyWords, IsTitleEnd, LosesNone, ArePlain, begins_with_move, words_of_head}
+use Rattle.niss_text.specs.Doubts.{IsDoubted, is_capital}
+use Rattle.niss_text.specs.Kept.{BeginNoMoves, HasOnlyWords, IsTitleEnd, LosesNone, ArePlain, ArePlainBefore, begins_with_move, words_of_head}
 use Rattle.niss_text.specs.Lines.{IsTold}
 use Rattle.niss_text.specs.declared.line.Line.{Line}
 use Rattle.niss_text.specs.declared.text_line.TextLine.{TextLine}
-use Rattle.niss_text.proofs.KeptLemmas.{part_of_line, part_of_rest, rest_of_line, plain_moves}
+use Rattle.niss_text.proofs.KeptLemmas.{part_of_line, part_of_rest, rest_of_line}
+use Rattle.niss_text.proofs.CommentLemmas.{first_capital, moves_some}
 
 -- where the parts of a line stand that begins there
 pub record StandsAt (now : ℕ) (seen : Line) (line : TextLine) : Type 0 where
@@ -26,6 +27,7 @@ pub record IsSeen (bytes : List ℕ) (seen : Line) : Type 0 where
   pub alone : seen.is_head_alone ≡ true → HasNoMoves (drop seen.head bytes)
   pub comment : begins_with_move (drop seen.comment bytes) ≡ false
   pub plain : ArePlain bytes → (seen.is_moves ≡ true) × ((seen.moves ≡ 0) × (seen.comment ≡ seen.length))
+  pub commented : (count : ℕ) → ArePlainBefore bytes count → (seen.is_moves ≡ true) × ((seen.moves ≡ 0) × (seen.comment ≡ count))
 
 -- what kind of a line it is
 pub record HasKind (seen : Line) (kind : ℕ) : Type 0 where
@@ -66,6 +68,7 @@ is_told text now seen line fits at is has known doubted = record {
       (subst (λ n. begins_with_move (slice_range text (now + seen.comment) n) ≡ false) (sym at.end)
       (subst (λ v. begins_with_move v ≡ false) (rest_of_line text now seen.length seen.comment (omega (arith, seen.comment_in, seen.slashes_in)) fits) is.comment));
   plain = λ plain. by_plain (whole plain);
+  commented = λ count before. by_comment count (subst (λ v. ArePlainBefore v count) (sym same) before);
 }
   where
     head : seen.head ≤ seen.length
@@ -75,27 +78,40 @@ is_told text now seen line fits at is has known doubted = record {
     empty (inl blank) = is.blank blank
     empty (inr alone) = is.alone alone
 
-    whole : ArePlain (slice_range text line.begin line.end) → ArePlain (take seen.length (drop now text))
-    whole plain =
-        subst (λ v. ArePlain v) (sym (part_of_rest text (drop now text) now seen.length refl))
-        (subst (λ n. ArePlain (slice_range text now n)) at.end (subst (λ n. ArePlain (slice_range text n line.end)) at.begin plain))
+    bytes : List ℕ
+    bytes = take seen.length (drop now text)
 
-    by_kind : (kind : ℕ) → line.kind ≡ kind → kind ≤ 4 → ArePlain (take seen.length (drop now text)) → (line.kind ≡ 2) ⊎ (line.kind ≡ 3)
-    by_kind zero this low plain =
-        let none : seen.head ≡ 0 = omega (arith, seen.head_in, seen.label_in, seen.words_in, (is.plain plain).1.0) in
-        absurd (plain_moves (take seen.length (drop now text)) plain
-        (subst (λ n. HasNoMoves (drop n (take seen.length (drop now text)))) none (empty (has.blank this))))
-    by_kind (suc zero) this low plain = absurd (false≢true (sym (has.before this) ∙ (is.plain plain).0))
-    by_kind (suc (suc zero)) this low plain = inl this
-    by_kind (suc (suc (suc zero))) this low plain = inr this
-    by_kind (suc (suc (suc (suc zero)))) this low plain = absurd (false≢true (sym (has.note this) ∙ (is.plain plain).0))
-    by_kind (suc (suc (suc (suc (suc k))))) this low plain = absurd (omega (arith, low))
+    same : bytes ≡ slice_range text line.begin line.end
+    same = part_of_rest text (drop now text) now seen.length refl ∙ ap (λ n. slice_range text now n) (sym at.end)
+        ∙ ap (λ n. slice_range text n line.end) (sym at.begin)
 
-    by_plain : ArePlain (take seen.length (drop now text)) → ((line.kind ≡ 2) ⊎ (line.kind ≡ 3)) × ((line.moves ≡ line.begin) × (line.comment ≡ line.end))
-    by_plain plain = (
-      by_kind line.kind refl known plain,
-      (
-        at.moves ∙ ap (λ n. now + n) (is.plain plain).1.0 ∙ add-zero now ∙ sym at.begin,
-        at.comment ∙ ap (λ n. now + n) (is.plain plain).1.1 ∙ sym at.end,
-      ),
-    )
+    whole : ArePlain (slice_range text line.begin line.end) → ArePlain bytes
+    whole plain = subst (λ v. ArePlain v) (sym same) plain
+
+    by_kind : (kind : ℕ) → line.kind ≡ kind → kind ≤ 4 → is_capital (get_or bytes 0 0) ≡ true → seen.is_moves ≡ true → seen.moves ≡ 0 →
+        (line.kind ≡ 2) ⊎ (line.kind ≡ 3)
+    by_kind zero this low capital moves first =
+        let none : seen.head ≡ 0 = omega (arith, seen.head_in, seen.label_in, seen.words_in, first) in
+        absurd (moves_some bytes capital (subst (λ n. HasNoMoves (drop n bytes)) none (empty (has.blank this))))
+    by_kind (suc zero) this low capital moves first = absurd (false≢true (sym (has.before this) ∙ moves))
+    by_kind (suc (suc zero)) this low capital moves first = inl this
+    by_kind (suc (suc (suc zero))) this low capital moves first = inr this
+    by_kind (suc (suc (suc (suc zero)))) this low capital moves first = absurd (false≢true (sym (has.note this) ∙ moves))
+    by_kind (suc (suc (suc (suc (suc k))))) this low capital moves first = absurd (omega (arith, low))
+
+    begins : seen.moves ≡ 0 → line.moves ≡ line.begin
+    begins first = at.moves ∙ ap (λ n. now + n) first ∙ add-zero now ∙ sym at.begin
+
+    by_plain : ArePlain bytes → ((line.kind ≡ 2) ⊎ (line.kind ≡ 3)) × ((line.moves ≡ line.begin) × (line.comment ≡ line.end))
+    by_plain plain =
+        let so = is.plain plain in (
+          by_kind line.kind refl known plain.first so.0 so.1.0,
+          (begins so.1.0, at.comment ∙ ap (λ n. now + n) so.1.1 ∙ sym at.end),
+        )
+
+    by_comment : (count : ℕ) → ArePlainBefore bytes count → ((line.kind ≡ 2) ⊎ (line.kind ≡ 3)) × ((line.moves ≡ line.begin) × (line.comment ≡ line.begin + count))
+    by_comment count before =
+        let so = is.commented count before in (
+          by_kind line.kind refl known (first_capital bytes count before.moves) so.0 so.1.0,
+          (begins so.1.0, at.comment ∙ ap (λ n. now + n) so.1.1 ∙ ap (λ n. n + count) (sym at.begin)),
+        )

@@ -55,7 +55,7 @@ slash_is_none b is sign = grind (arith, nat_tests)
 zero_is_none : (b : ℕ) → b ≡ 0 → ((b == 50) || (b == 39)) ≡ true → ⊥
 zero_is_none b is sign = grind (arith, nat_tests)
 
-beyond : (text : List ℕ) (at : ℕ) → length text ≤ at → get_or text at 0 ≡ 0
+pub beyond : (text : List ℕ) (at : ℕ) → length text ≤ at → get_or text at 0 ≡ 0
 beyond [] at le = refl
 beyond (b ∷ bytes) zero le = absurd (omega (arith, le))
 beyond (b ∷ bytes) (suc at) le = beyond bytes at (omega (arith, le))

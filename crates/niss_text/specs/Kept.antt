@@ -1,7 +1,7 @@
 -- What stands in a line before its moves, in its head and between its parts: none of its moves.
-use Rattle.std.specs.Prelude.{◌≡◌, ℕ, ◌+◌, ◌<◌, ◌⊎◌, ◌==◌, Bool, true, false, ◌||◌, ◌&&◌, not, List, [], ◌∷◌, ◌++◌, length, drop, map, slice_index, slice_range, if◌then◌else◌, codes}
+use Rattle.std.specs.Prelude.{◌≡◌, ℕ, ◌+◌, ◌<◌, ◌⊎◌, ◌==◌, Bool, true, false, ◌||◌, ◌&&◌, not, List, [], ◌∷◌, ◌++◌, length, take, drop, map, slice_index, slice_range, if◌then◌else◌, codes}
 use Rattle.std.specs.List.{All, Contains, concat, list_any}
-use Rattle.niss_text.specs.Signs.{HasNoMoves, is_within, begins_count}
+use Rattle.niss_text.specs.Signs.{HasNoMoves, AreSigns, ends_title, is_within, begins_count}
 use Rattle.niss_text.specs.Doubts.{is_capital}
 
 -- a letter of ASCII, and it as a small one
@@ -39,13 +39,15 @@ words_of_count = codes " moves" ∷ codes " move" ∷ []
 abbrev pub IsCount : List ℕ → Type 0
 IsCount bytes = (begins_count (slice_index bytes 0) (slice_index bytes 1) ≡ true) × HasOnlyWords words_of_count bytes
 
--- What may stand between a label and the moves: a number of moves, and after it nothing that moves are made of.
+-- What may stand between a label and the moves: a number of moves, and after it blanks, signs that aren't seen, and
+-- colons, of which nothing is what moves are made of.
 pub record IsTitleEnd (bytes : List ℕ) : Type 0 where
   pub count : List ℕ
   pub rest : List ℕ
   pub whole : count ++ rest ≡ bytes
   pub counted : (count ≡ []) ⊎ IsCount count
   pub empty : HasNoMoves rest
+  pub signs : AreSigns ends_title rest
 
 -- No move is lost before the moves of a line, which has its parts there: a head has no letters but those of its words,
 -- no byte that moves begin with stands between it and the label, and none between that and the moves but in a number of
@@ -64,6 +66,32 @@ follows a b = (b == 32) || (((a == 32) && is_capital b) || ((not (a == 32)) && (
 pub record ArePlain (bytes : List ℕ) : Type 0 where
   pub first : is_capital (slice_index bytes 0) ≡ true
   pub each : (k : ℕ) → k + 1 < length bytes → follows (slice_index bytes k) (slice_index bytes (k + 1)) ≡ true
+
+-- a letter of an outer turn, or the 2 of a half one
+abbrev pub is_turn : ℕ → Bool
+is_turn b = is_capital b || (b == 50)
+
+-- a byte of turns may follow another: a blank, a letter after one, or a 2 after a letter
+abbrev pub follows_turn : ℕ → ℕ → Bool
+follows_turn a b = (b == 32) || (((a == 32) && is_capital b) || (is_capital a && (b == 50)))
+
+-- Words are turns: letters of outer turns, each after a blank or at the beginning, and perhaps a 2 after it.
+pub record AreTurns (bytes : List ℕ) : Type 0 where
+  pub first : is_capital (slice_index bytes 0) ≡ true
+  pub each : (k : ℕ) → k + 1 < length bytes → follows_turn (slice_index bytes k) (slice_index bytes (k + 1)) ≡ true
+
+-- each byte is a blank or one of turns
+abbrev pub HasTurns : List ℕ → Type 0
+HasTurns bytes = (k : ℕ) → k < length bytes → (slice_index bytes k ≡ 32) ⊎ (is_turn (slice_index bytes k) ≡ true)
+
+-- so many bytes are of turns, and a blank follows them, or nothing
+abbrev pub IsTurnUpTo : List ℕ → ℕ → Type 0
+IsTurnUpTo bytes count = ((k : ℕ) → k < count → is_turn (slice_index bytes k) ≡ true) × (count < length bytes → slice_index bytes count ≡ 32)
+
+-- The first bytes of a line, that many, are moves by capitals, and the slashes of a comment follow them.
+pub record ArePlainBefore (bytes : List ℕ) (count : ℕ) : Type 0 where
+  pub moves : ArePlain (take count bytes)
+  pub slashes : (slice_index bytes count ≡ 47) × (slice_index bytes (count + 1) ≡ 47)
 
 -- a text ends, or goes on with a blank
 unfoldable pub is_over : List ℕ → Bool

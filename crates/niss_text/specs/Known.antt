@@ -1,6 +1,12 @@
 -- The parts of a text of solutions, each of a scramble that is known, or of none that can be told.
-use Rattle.std.specs.Prelude.{◌≡◌, ℕ, ◌<◌, ◌≤◌, ◌⊎◌, ⊤, Bool, true, false, List, [], ◌∷◌, length, get_or}
+use Rattle.std.specs.Prelude.{◌≡◌, ℕ, zero, suc, ◌+◌, ◌-◌, ◌*◌, ◌==◌, ◌<◌, ◌≤◌, ◌⊎◌, ◌||◌, ◌&&◌, not, min, ⊤, Bool, true, false, if◌then◌else◌, Option, None, Some, MatchOption, is_some, List, [], ◌∷◌, length, get_or, slice_range}
+use Rattle.std.specs.List.{All, list_any}
+use Rattle.niss_text.specs.Signs.{is_digit}
+use Rattle.niss_text.specs.Doubts.{is_letter}
+use Rattle.niss_text.specs.Kept.{HasOnlyWords, words_of_head}
 use Rattle.niss_text.specs.declared.known.KnownPart.{KnownPart}
+use Rattle.niss_text.specs.declared.parts.Part.{Part}
+use Rattle.niss_text.specs.declared.text_line.TextLine.{TextLine}
 
 -- each is of one of that many scrambles, or has the highest number
 unfoldable pub AreKnown : ℕ → List KnownPart → Type 0
@@ -14,10 +20,55 @@ HaveLines from [] to = from ≡ to
 HaveLines from (part ∷ parts) to =
     (part.first_line ≡ from) × (from ≤ part.solution_end) × (part.solution_end ≤ part.end_line) × HaveLines part.end_line parts to
 
+-- a number, or none, with one more digit, as far as numbers go
+abbrev pub with_digit : Option ℕ → ℕ → ℕ
+with_digit None digit = min (min (0 * 10) 18446744073709551615 + (digit - 48)) 18446744073709551615
+with_digit (Some number) digit = min (min (number * 10) 18446744073709551615 + (digit - 48)) 18446744073709551615
+
+-- a number with the digits that follow it
+unfoldable pub number_on : ℕ → List ℕ → ℕ
+number_on number [] = number
+number_on number (b ∷ bs) = if is_digit b then number_on (with_digit (Some number) b) bs else number
+
+-- the first number of some bytes
+unfoldable pub first_number : List ℕ → Option ℕ
+first_number [] = None
+first_number (b ∷ bs) = if is_digit b then Some (number_on (with_digit None b) bs) else first_number bs
+
+-- the letter of extras, such as E1
+abbrev pub is_extra : ℕ → Bool
+is_extra b = (b == 101) || (b == 69)
+
+-- The number of a head: its first one; but it has none if its first letter is that of extras, and no number stands before
+-- that.
+unfoldable pub head_number : List ℕ → Option ℕ
+head_number [] = None
+head_number (b ∷ bs) = if is_digit b then Some (number_on (with_digit None b) bs)
+    else (if is_extra b then None else (if is_letter b then first_number bs else head_number bs))
+
+-- the scramble of a number, from 0: none of none, nor of 0
+abbrev pub scramble_with : Option ℕ → ℕ
+scramble_with None = 18446744073709551615
+scramble_with (Some zero) = 18446744073709551615
+scramble_with (Some (suc n)) = n
+
 -- No two parts are of the same scramble, but of none.
 abbrev pub AreApart : List KnownPart → Type 0
 AreApart parts = (i j : ℕ) (none : KnownPart) → i < j → j < length parts → (get_or parts i none).scramble ≡ (get_or parts j none).scramble →
     (get_or parts i none).scramble ≡ 18446744073709551615
+
+-- Of so many parts none but that in a place says the scramble that this one says.
+abbrev pub IsAlone : (said : ℕ → ℕ) (count place : ℕ) → Type 0
+IsAlone said count k = (j : ℕ) → j < count → said j ≡ said k → j ≡ k
+
+-- Of which of the scrambles the parts are, by what each says. In order, each is of that in its place. Else each is of
+-- none, or of the scramble that it alone says; and it is of that one, if there is such a scramble.
+pub record AreAssigned (is_in_order : Bool) (count : ℕ) (said : ℕ → ℕ) (parts : List KnownPart) : Type 0 where
+  pub in_order : is_in_order ≡ true → (k : ℕ) (none : KnownPart) → k < length parts → k < count → (get_or parts k none).scramble ≡ k
+  pub only : is_in_order ≡ false → (k : ℕ) (none : KnownPart) → k < length parts →
+      ((get_or parts k none).scramble ≡ 18446744073709551615) ⊎ (((get_or parts k none).scramble ≡ said k) × IsAlone said (length parts) k)
+  pub all : is_in_order ≡ false → (k : ℕ) (none : KnownPart) → k < length parts → said k < count → IsAlone said (length parts) k →
+      (get_or parts k none).scramble ≡ said k
 
 -- No two parts have the number of a scramble that is counted once.
 abbrev pub AreCounted : List KnownPart → List ℕ → Type 0
@@ -29,3 +80,76 @@ AreCounted parts counts = (s : ℕ) → s < length counts → get_or counts s 0 
 abbrev pub IsOwn : (is_in_order : Bool) → List KnownPart → List ℕ → (place scramble : ℕ) → Type 0
 IsOwn true parts counts k s = s ≡ k
 IsOwn false parts counts k s = (s < length counts) × (get_or counts s 0 ≡ 1) × ((none : KnownPart) → (get_or parts k none).scramble ≡ s)
+
+-- A scramble whose number one part alone has is counted once.
+abbrev pub IsCountedAlone : List KnownPart → List ℕ → Type 0
+IsCountedAlone parts counts = (k : ℕ) (none : KnownPart) → k < length parts → (get_or parts k none).scramble < length counts →
+    IsAlone (λ j. (get_or parts j none).scramble) (length parts) k → get_or counts (get_or parts k none).scramble 0 ≡ 1
+
+-- the number of the head of a line: none if it has no head
+abbrev pub number_of_line : List ℕ → TextLine → Option ℕ
+number_of_line text line = if line.is_headed == 0 then None else head_number (slice_range text line.begin line.head_end)
+
+-- A name stands in the text, and has no letters but those of the words of a head; an empty one is none.
+pub record IsName (text : List ℕ) (begin end : ℕ) : Type 0 where
+  pub order : begin ≤ end
+  pub within : end ≤ length text
+  pub words : HasOnlyWords words_of_head (slice_range text begin end)
+
+-- what stands before the labels of lines are names
+abbrev pub HaveHeads : List ℕ → List TextLine → Type 0
+HaveHeads text lines = All (λ line. IsName text line.begin line.head_end) lines
+
+-- what parts have for names are such
+abbrev pub HaveNames : List ℕ → List KnownPart → Type 0
+HaveNames text parts = All (λ part. IsName text part.name_begin part.name_end) parts
+
+-- the first of some lines that has a head, if there is one
+unfoldable pub first_headed : List TextLine → Option TextLine
+first_headed [] = None
+first_headed (line ∷ lines) = if line.is_headed == 0 then first_headed lines else Some line
+
+-- The name of a part of some lines is the head of the first one that has one; it has none if there is none.
+abbrev pub IsNamed : List TextLine → Part → Type 0
+IsNamed lines part = MatchOption (first_headed lines)
+    ((part.has_head ≡ false) × (part.name_begin ≡ 0) × (part.name_end ≡ 0))
+    (λ line. (part.has_head ≡ true) × (part.name_begin ≡ line.begin) × (part.name_end ≡ line.head_end))
+
+-- what is read of a part has the number of its name
+abbrev pub IsNumbered : List ℕ → Part → Type 0
+IsNumbered text part = part.number ≡ head_number (slice_range text part.name_begin part.name_end)
+
+-- the number of the name of a part of a text
+abbrev pub number_of_name : List ℕ → KnownPart → Option ℕ
+number_of_name text part = head_number (slice_range text part.name_begin part.name_end)
+
+-- each part says the scramble of its name's number
+abbrev pub AreSaid : List ℕ → List KnownPart → Type 0
+AreSaid text parts = All (λ part. part.scramble ≡ scramble_with (number_of_name text part)) parts
+
+-- the name of one of the parts has a number
+abbrev pub have_numbers : List ℕ → List KnownPart → Bool
+have_numbers text parts = list_any (λ part. is_some (number_of_name text part)) parts
+
+-- parts have the same names as others
+abbrev pub AreNamedAs : List KnownPart → List KnownPart → Type 0
+AreNamedAs parts others = (k : ℕ) (none : KnownPart) →
+    ((get_or others k none).name_begin ≡ (get_or parts k none).name_begin) × ((get_or others k none).name_end ≡ (get_or parts k none).name_end)
+
+-- Parts are in order if no name has a number, and they are as many as the scrambles.
+abbrev pub are_in_order : List ℕ → ℕ → List KnownPart → Bool
+are_in_order text count parts = not (have_numbers text parts) && (length parts == count)
+
+-- The name of the part in a place has the number of a scramble, counted from 1, and no other part's name has it.
+pub record SaysAlone (text : List ℕ) (parts : List KnownPart) (k scramble : ℕ) : Type 0 where
+  pub says : (none : KnownPart) → number_of_name text (get_or parts k none) ≡ Some (scramble + 1)
+  pub alone : (j : ℕ) (none : KnownPart) → j < length parts → number_of_name text (get_or parts j none) ≡ Some (scramble + 1) → j ≡ k
+
+-- Which scramble each part of a text is of, if so many are known: of parts in order that in its place. Else a part is of
+-- none, or of the one whose number its name alone says; and it is of that one, if there is such a scramble.
+pub record AreOf (text : List ℕ) (count : ℕ) (parts : List KnownPart) : Type 0 where
+  pub in_order : are_in_order text count parts ≡ true → (k : ℕ) (none : KnownPart) → k < length parts → (get_or parts k none).scramble ≡ k
+  pub only : are_in_order text count parts ≡ false → (k : ℕ) (none : KnownPart) → k < length parts →
+      ((get_or parts k none).scramble ≡ 18446744073709551615) ⊎ SaysAlone text parts k (get_or parts k none).scramble
+  pub all : are_in_order text count parts ≡ false → (k scramble : ℕ) (none : KnownPart) → k < length parts → scramble < count →
+      SaysAlone text parts k scramble → (get_or parts k none).scramble ≡ scramble

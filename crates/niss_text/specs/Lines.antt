@@ -2,7 +2,7 @@
 use Rattle.std.specs.Prelude.{◌≡◌, ℕ, zero, suc, ◌==◌, ◌+◌, ◌<◌, ◌≤◌, ◌⊎◌, ◌&&◌, true, false, if◌then◌else◌, List, [], ◌∷◌, length, slice_index, slice_range}
 use Rattle.niss_text.specs.Signs.{ends_line, HasNoMoves}
 use Rattle.niss_text.specs.Doubts.{IsDoubted}
-use Rattle.niss_text.specs.Kept.{LosesNone, ArePlain, begins_with_move}
+use Rattle.niss_text.specs.Kept.{LosesNone, ArePlain, ArePlainBefore, begins_with_move}
 use Rattle.niss_text.specs.declared.text_line.TextLine.{TextLine}
 
 -- A line that begins there. Its parts stand in this order, and none overlaps another. Only a step is on the inverse.
@@ -28,7 +28,7 @@ pub record IsPlacedAs (line other : TextLine) : Type 0 where
 
 -- What is told of a line of a text: what makes one doubt it. It loses no move before its moves; nothing that moves are
 -- made of stands in a blank one after its head; what is said after the moves doesn't begin with a move by itself; and a
--- line that is plain moves is of a scramble or a step, all of it.
+-- line that is plain moves is of a scramble or a step, all of it, or all up to the slashes if a comment follows the moves.
 pub record IsTold (text : List ℕ) (line : TextLine) : Type 0 where
   pub doubted : IsDoubted text line
   pub kept : LosesNone text line.begin line.head_end line.label_begin line.label_end line.moves
@@ -36,6 +36,8 @@ pub record IsTold (text : List ℕ) (line : TextLine) : Type 0 where
   pub comment : begins_with_move (slice_range text line.comment line.end) ≡ false
   pub plain : ArePlain (slice_range text line.begin line.end) →
       ((line.kind ≡ 2) ⊎ (line.kind ≡ 3)) × ((line.moves ≡ line.begin) × (line.comment ≡ line.end))
+  pub commented : (count : ℕ) → ArePlainBefore (slice_range text line.begin line.end) count →
+      ((line.kind ≡ 2) ⊎ (line.kind ≡ 3)) × ((line.moves ≡ line.begin) × (line.comment ≡ line.begin + count))
 
 -- how many bytes of two end a line: a return and a line feed both, either of them alone, or none
 abbrev pub end_of : ℕ → ℕ → ℕ
@@ -59,11 +61,12 @@ Counts text from zero to = from ≡ to
 Counts text from (suc count) to =
     (from < length text) × ((size : ℕ) × IsUnbroken text from size × IsEnd text (from + size) × Counts text (from + size + end_size text (from + size)) count to)
 
--- The lines of a text from one place to another: each of bytes that don't end it, and after it what does.
+-- The lines of a text from one place to another: each of bytes that don't end it, and up to what does.
 unfoldable pub Covers : List ℕ → ℕ → List TextLine → ℕ → Type 0
 Covers text from [] to = from ≡ to
 Covers text from (line ∷ lines) to =
-    IsLine from line × (IsTold text line × ((size : ℕ) × (line.end ≡ from + size) × IsUnbroken text from size × Covers text (line.end + end_size text line.end) lines to))
+    IsLine from line × (IsTold text line × ((size : ℕ) × (line.end ≡ from + size) × IsUnbroken text from size
+    × IsEnd text line.end × Covers text (line.end + end_size text line.end) lines to))
 
 -- Some of the lines of a text from one place to another, in order: each from some place in its line to what ends that.
 -- Others may stand between them.

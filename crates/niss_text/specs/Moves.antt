@@ -2,7 +2,7 @@
 use Rattle.std.specs.Prelude.{◌≡◌, ℕ, ◌+◌, ◌-◌, ◌*◌, ◌==◌, ◌<◌, ◌≤◌, ◌⊎◌, nat_lt, Bool, ◌&&◌, not, if◌then◌else◌, Option, None, Some, List, [], ◌∷◌, ◌++◌, length, take, drop, map, slice_range}
 use Rattle.std.specs.List.{All, filter, list_any}
 use Rattle.niss_text.specs.Signs.{is_digit}
-use Rattle.niss_text.specs.Pieces.{Part, ArePieces, HasNoTitle, text_of, line_of, places_of}
+use Rattle.niss_text.specs.Pieces.{Part, ArePieces, StayRightly, HasNoTitle, text_of, line_of, places_of}
 use Rattle.niss_text.specs.LeftOut.{left_none, both, left_of_all, bits_of}
 use Rattle.niss_text.specs.declared.left_out.LeftOut.{LeftOut}
 use Rattle.niss_text.specs.declared.text_line.TextLine.{TextLine}
@@ -32,6 +32,7 @@ pub record LineMoves : Type 0 where
 -- What stands from `moves` to `comment`, as far as that is in the text, is these pieces; none is what stands before moves.
 pub record AreMoves (text : List ℕ) (m : LineMoves) : Type 0 where
   pub are_pieces : ArePieces m.parts
+  pub stay : StayRightly m.parts []
   pub untitled : HasNoTitle m.parts
   pub whole : text_of m.parts ≡ slice_range text m.line.moves m.line.comment
 

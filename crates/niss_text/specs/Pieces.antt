@@ -1,8 +1,9 @@
 -- What a text is read as: pieces, one after another, of which each is written in its place or left out.
-use Rattle.std.specs.Prelude.{◌≡◌, ℕ, ◌+◌, ◌<◌, ◌≤◌, Bool, true, false, List, [], ◌∷◌, ◌++◌, length, replicate, take, slice_index}
+use Rattle.std.specs.Prelude.{◌≡◌, ℕ, ◌+◌, ◌<◌, ◌≤◌, Bool, true, false, List, [], ◌∷◌, ◌++◌, length, replicate, take, slice_index, ◌⊎◌}
 use Rattle.niss_text.specs.declared.piece.Piece.{Piece}
 use Rattle.niss_text.specs.declared.piece.Piece.TheVariants.{Kept, Blank, LineEnd, Comma, Apostrophe, Unseen, Label, LineNumber, MoveCount, Comment}
-use Rattle.niss_text.specs.Signs.{HasNoMoves, is_letter, ends_line, begins_number, begins_count}
+use Rattle.niss_text.specs.Signs.{AreWords, IsOneOf, is_blank, is_line_end, is_comma, is_apostrophe, is_unseen, is_colon, is_letter, ends_line, begins_number, begins_changed}
+use Rattle.niss_text.specs.Kept.{AreTurns, BeginNoMoves, HasOnlyWords, IsCount, IsTitleEnd, words_of_head}
 
 -- A piece of a text, with its bytes.
 pub record Part : Type 0 where
@@ -16,25 +17,48 @@ part kind bytes = record { kind = kind; bytes = bytes }
 abbrev pub IsWithinLine : List ℕ → Type 0
 IsWithinLine bytes = (k : ℕ) → k < length bytes → ends_line (slice_index bytes k) ≡ false
 
--- What each kind of piece may be: what isn't written as it stands has no byte of moves, or begins as no moves do. A
--- label begins with a letter, as moves may. None of these goes on after its line.
+-- Words that are no turns end with a colon, before which a number of moves may stand.
+pub record EndsWithColon (bytes : List ℕ) : Type 0 where
+  pub words : List ℕ
+  pub title : List ℕ
+  pub colon : List ℕ
+  pub whole : words ++ (title ++ colon) ≡ bytes
+  pub are_words : AreWords words
+  pub no_turns : AreTurns words → ⊥
+  pub end : IsTitleEnd title
+  pub is : is_colon colon ≡ true
+
+-- A label is words with a colon at their end, or has no letters but those of the words of a head.
+abbrev pub IsLabel : List ℕ → Type 0
+IsLabel bytes = EndsWithColon bytes ⊎ HasOnlyWords words_of_head bytes
+
+-- What each kind of piece may be. A sign that is written otherwise or not is one of those that its kind has, and has no
+-- byte of moves. A label begins with a letter, as moves may, but it is words with a colon, or has only those of a head. A
+-- number of a line has no letter and no opened bracket, one of moves no letter but those of its word. A label,
+-- a number of a line and a comment end within it.
 abbrev pub IsPiece : Piece → List ℕ → Type 0
 IsPiece Kept bytes = length bytes ≡ 1
-IsPiece Blank bytes = HasNoMoves bytes
-IsPiece LineEnd bytes = HasNoMoves bytes
-IsPiece Comma bytes = HasNoMoves bytes
-IsPiece Apostrophe bytes = HasNoMoves bytes
-IsPiece Unseen bytes = HasNoMoves bytes
-IsPiece Label bytes = (is_letter (slice_index bytes 0) ≡ true) × IsWithinLine bytes
-IsPiece LineNumber bytes = (begins_number (slice_index bytes 0) ≡ true) × IsWithinLine bytes
-IsPiece MoveCount bytes = begins_count (slice_index bytes 0) (slice_index bytes 1) ≡ true
+IsPiece Blank bytes = IsOneOf is_blank bytes
+IsPiece LineEnd bytes = IsOneOf is_line_end bytes
+IsPiece Comma bytes = IsOneOf is_comma bytes
+IsPiece Apostrophe bytes = IsOneOf is_apostrophe bytes
+IsPiece Unseen bytes = IsOneOf is_unseen bytes
+IsPiece Label bytes = (is_letter (slice_index bytes 0) ≡ true) × IsLabel bytes × IsWithinLine bytes
+IsPiece LineNumber bytes = (begins_number (slice_index bytes 0) ≡ true) × BeginNoMoves bytes × IsWithinLine bytes
+IsPiece MoveCount bytes = IsCount bytes
 IsPiece Comment bytes = (slice_index bytes 0 ≡ 47) × (slice_index bytes 1 ≡ 47) × IsWithinLine bytes
 
--- The first bytes of a text, that many and at least one, are such a piece.
+-- A byte may stay in front of a text: no sign begins there that is written otherwise, and no comment.
+pub record MayStay (text : List ℕ) : Type 0 where
+  pub unchanged : begins_changed text ≡ false
+  pub uncommented : slice_index text 0 ≡ 47 → slice_index text 1 ≡ 47 → ⊥
+
+-- The first bytes of a text, that many and at least one, are such a piece. A byte stays only where it may.
 pub record IsFirst (text : List ℕ) (kind : Piece) (count : ℕ) : Type 0 where
   pub some : 0 < count
   pub fits : count ≤ length text
   pub is : IsPiece kind (take count text)
+  pub stays : kind ≡ Kept → MayStay text
 
 -- what is written of a piece: what stays, one blank, the grammar's other apostrophe, or nothing
 abbrev pub written : Piece → List ℕ → List ℕ
@@ -68,6 +92,11 @@ places_of at (p ∷ ps) = replicate (length (written p.kind p.bytes)) at ++ plac
 unfoldable pub ArePieces : List Part → Type 0
 ArePieces [] = Unit {0}
 ArePieces (p ∷ ps) = (0 < length p.bytes) × IsPiece p.kind p.bytes × ArePieces ps
+
+-- In the text that pieces make, with what follows them, each byte that stays may.
+unfoldable pub StayRightly : List Part → List ℕ → Type 0
+StayRightly [] rest = Unit {0}
+StayRightly (p ∷ ps) rest = (p.kind ≡ Kept → MayStay (p.bytes ++ (text_of ps ++ rest))) × StayRightly ps rest
 
 -- a piece that stands before the moves of a line
 abbrev pub is_title : Piece → Bool

@@ -251,6 +251,7 @@ pub fn put_solution(text: &[u8], end: usize, so_far: Progress, lines: &mut [Text
     ensures within { (so_far.at ≤ result.at) × (result.at ≤ length text.now) }
     ensures takes { Takes text.now 0 (take so_far.lines lines.old) so_far.at → result.lines ≤ length lines.new →
         Takes text.now 0 (take result.lines lines.new) result.at }
+    ensures behind { drop result.lines lines.new ≡ drop result.lines lines.old }
 {
     let length = length_behind_scramble(&text[so_far.at..end]);
     if length == 0 {

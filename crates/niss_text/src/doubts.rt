@@ -8,9 +8,10 @@ ghost use Rattle.niss_text.specs.declared.sights.Sight.TheVariants.{Small, Capit
 use crate::among_moves::{comma_at, letters_at, small_alone};
 use crate::body::has_more_than_scramble;
 use crate::forms::has_bracket;
-use crate::line::Line;
+use crate::line::{Line, are_long};
 use crate::marks::{
-    begin_with_letter_of_words, defined_mark, is_mark, letter_of_words, times_at_end, times_said,
+    begin_with_letter_of_words, defined_mark, has_slice, is_mark, is_no_count, letter_of_words,
+    times_at_end, times_said,
 };
 use crate::sights::{Sight, first_seen, is_letter};
 use crate::text_line::{LineKind, TextLine};
@@ -103,7 +104,8 @@ fn first_said(text: &[u8], from: usize, to: usize, has_brackets: bool) -> (Doubt
 {
     for at in from..to {
         let rest = &text[at..to];
-        if !is_letter(text[at]) && text[at] < 0x80 {
+        // no word begins within a sign
+        if !is_letter(text[at]) && text[at] < 0xc0 {
             continue;
         }
         let is_begun = at == from || !is_letter(text[at.saturating_sub(1)]);
@@ -192,6 +194,9 @@ fn doubt_of_step(text: &[u8], told: &TextLine, slashes: usize, has_solution: boo
     if is_mark(&text[told.comment..slashes]) {
         return (Doubt::Insertion, told.comment);
     }
+    if is_no_count(&text[told.comment..slashes]) {
+        return (Doubt::Signs, told.comment);
+    }
     if let Some(at) = letter_beside_words(text, told, slashes) {
         return (Doubt::Comment, at);
     }
@@ -211,6 +216,29 @@ fn is_uncommented_step(told: &TextLine) -> bool
     ensures { result ≡ true → IsUncommentedStep told.now }
 {
     told.is_a(LineKind::Step) && told.comment == told.end
+}
+
+/// Whether a line that isn't of the solution is called a scramble, but not that of the inverse, and is as long as one.
+fn is_called_scramble(text: &[u8], told: &TextLine) -> bool
+    requires line { IsLine told.now.begin told.now }
+    requires fits { told.now.end ≤ length text.now }
+{
+    let label = &text[told.label_begin..told.label_end];
+    told.is_solution == 0
+        && are_long(told.moves, told.comment)
+        && says(label, Wanted::Scramble)
+        && !says(label, Wanted::Inverse)
+}
+
+/// Whether some moves are as long as a scramble, and may have been printed otherwise: none is turned back, so that their
+/// apostrophes may have been lost, or one is of a slice.
+fn may_be_misread(text: &[u8], told: &TextLine) -> bool
+    requires line { IsLine told.now.begin told.now }
+    requires fits { told.now.end ≤ length text.now }
+{
+    are_long(told.moves, told.comment)
+        && (first_seen(text, told.moves, told.comment, Sight::Prime) == told.comment
+            || has_slice(&text[told.moves..told.comment]))
 }
 
 /// What makes one doubt a line of moves, and where.
@@ -253,6 +281,9 @@ fn doubt_of_moves(text: &[u8], told: &TextLine, line: &Line, sheet: Sheet) -> (D
     let comma = comma_at(text, told.moves, told.comment);
     if comma < told.comment {
         return (Doubt::Signs, comma);
+    }
+    if may_be_misread(text, told) {
+        return (Doubt::Signs, told.moves);
     }
     if !told.is_a(LineKind::Scramble) {
         return doubt_of_step(text, told, slashes, sheet.has_solution);
@@ -297,7 +328,7 @@ fn doubt_of(text: &[u8], told: &TextLine, line: &Line, sheet: Sheet) -> (Doubt, 
     if told.is_a(LineKind::Scramble) {
         return doubt_of_moves(text, told, line, sheet);
     }
-    if sheet.is_stray && is_uncommented_step(told) {
+    if (sheet.is_stray || is_called_scramble(text, told)) && is_uncommented_step(told) {
         return (Doubt::StepOrScramble, told.moves);
     }
     let is_after = told.is_a(LineKind::Step) || told.is_a(LineKind::Note);

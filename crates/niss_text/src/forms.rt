@@ -1,7 +1,8 @@
 //! What stands in a text beside moves: numbers of moves, labels and comments.
-ghost use Rattle.std.specs.Prelude.{◌≡◌, ◌≤◌, ◌<◌, ℕ, true, false, [], ◌∷◌, length, take, slice_index, slice_range, IfSome};
-ghost use Rattle.niss_text.specs.Signs.{IsSign, HasNoMoves, ends_line, opens};
-ghost use Rattle.niss_text.specs.Kept.{HasNoLetters, HasOnlyWords, IsCount, IsTitleEnd, words_of_count};
+ghost use Rattle.std.specs.Prelude.{◌≡◌, ◌≤◌, ◌<◌, ◌+◌, ℕ, true, false, [], ◌∷◌, length, take, slice_index, slice_range, IfSome};
+ghost use Rattle.niss_text.specs.Signs.{IsSign, HasNoMoves, AreSigns, is_spacing, ends_line, opens};
+ghost use Rattle.niss_text.specs.Pieces.{EndsWithColon};
+ghost use Rattle.niss_text.specs.Kept.{AreTurns, IsTurnUpTo, HasNoLetters, HasOnlyWords, IsCount, IsTitleEnd, words_of_count};
 
 use crate::sign::{
     Class, Kind, digits_length, first_kind, from_place, is_letter, is_of_word, is_skipped,
@@ -130,7 +131,8 @@ fn ends_line(byte: u8) -> bool
 
 /// Whether a text begins with a comment.
 pub fn begins_comment(text: &[u8]) -> bool
-    ensures { result ≡ true → slice_index text.now 0 ≡ 47 }
+    ensures first { result ≡ true → slice_index text.now 0 ≡ 47 }
+    ensures both { slice_index text.now 0 ≡ 47 → slice_index text.now 1 ≡ 47 → result ≡ true }
 {
     text.len() > 1 && text[0] == b'/' && text[1] == b'/'
 }
@@ -139,6 +141,7 @@ pub fn begins_comment(text: &[u8]) -> bool
 pub fn comment_at(line: &[u8]) -> usize
     ensures fits { result ≤ length line.now }
     ensures slash { result < length line.now → slice_index line.now result ≡ 47 }
+    ensures first { (k : ℕ) → slice_index line.now k ≡ 47 → slice_index line.now (k + 1) ≡ 47 → result ≤ k }
 {
     let mut rest = line;
     while !rest.is_empty() {
@@ -154,6 +157,7 @@ pub fn comment_at(line: &[u8]) -> usize
 pub fn blanks(line: &[u8]) -> usize
     ensures fits { result ≤ length line.now }
     ensures empty { HasNoMoves (take result line.now) }
+    ensures spacing { AreSigns is_spacing (take result line.now) }
 {
     line.len() - trimmed(line).len()
 }
@@ -178,7 +182,9 @@ pub fn is_parted(line: &[u8]) -> bool {
 }
 
 /// Whether a word may be a move, so that a colon after it is at fault.
-fn is_like_move(word: &[u8]) -> bool {
+fn is_like_move(word: &[u8]) -> bool
+    ensures { AreTurns word.now → IsTurnUpTo word.now (length word.now) → result ≡ true }
+{
     if word.is_empty() || !is_letter(first_kind(word)) {
         return false;
     }
@@ -188,14 +194,16 @@ fn is_like_move(word: &[u8]) -> bool {
 }
 
 /// Whether each of some words may be a move.
-fn are_like_moves(words: &[u8]) -> bool {
+fn are_like_moves(words: &[u8]) -> bool
+    ensures { AreTurns words.now → result ≡ true }
+{
     let mut rest = trimmed(words);
     while !rest.is_empty() {
         let word = length_of(rest, Class::NoBlanks);
         if word == 0 || !is_like_move(&rest[..word]) {
             return false;
         }
-        rest = trimmed(&rest[word..]);
+        rest = trimmed(from_place(rest, word));
     }
     true
 }
@@ -243,6 +251,7 @@ fn words_before_colon(line: &[u8]) -> (usize, usize)
     ensures fits { result.1 ≤ length line.now }
     ensures some { 0 < result.1 → 0 < result.0 }
     ensures end { IsTitleEnd (slice_range line.now result.0 result.1) }
+    ensures colon { 0 < result.1 → (AreTurns (take result.0 line.now) → ⊥) → EndsWithColon (take result.1 line.now) }
 {
     if line.len() < 2 || !is_letter(first_kind(line)) || !is_of_word(first_kind(&line[1..])) {
         return (0, 0);
@@ -266,6 +275,7 @@ pub fn label_of(line: &[u8]) -> Option<Label>
     ensures fits { IfSome result (λ label. label.length ≤ length line.now) }
     ensures some { IfSome result (λ label. 0 < label.words) }
     ensures end { IfSome result (λ label. IsTitleEnd (slice_range line.now label.words label.length)) }
+    ensures colon { IfSome result (λ label. EndsWithColon (take label.length line.now)) }
 {
     let (words, length) = words_before_colon(line);
     if length == 0 || are_like_moves(&line[..words]) {

@@ -4,6 +4,7 @@ ghost use Rattle.std.specs.Prelude.{◌≤◌, ◌<◌};
 use crate::body::is_whole_move_before;
 use crate::line::{Line, Numbers, first_line, whole_length};
 use crate::sign::trimmed;
+use crate::words::{Wanted, says};
 
 /// The group of the last line, and what is seen of it.
 #[derive(Clone, Copy)]
@@ -113,9 +114,12 @@ pub struct Solutions {
     stray: Stray,
 }
 
-/// A line after a scramble that may be another one, and moves under it are fewer, or something is said of them.
+/// A line after a scramble that may be another one: moves under it are fewer, or something is said of them, or the words
+/// above it say so.
 #[derive(Clone, Copy)]
 struct Stray {
+    /// The last words by themselves name a scramble, and no moves stand below them yet.
+    is_called: bool,
     /// Where the first moves of the last group stand, if they may be a scramble.
     begun: Option<usize>,
     /// Where such a line stands, and its group.
@@ -126,6 +130,7 @@ struct Stray {
 impl Stray {
     fn nothing() -> Stray {
         Stray {
+            is_called: false,
             begun: None,
             found: None,
             group: 0,
@@ -135,7 +140,11 @@ impl Stray {
     /// After one more line with moves, which begins there, the first of its group that has any or not.
     fn after(self, line: &Line, at: usize, group: usize, is_first: bool) -> Stray {
         let mut stray = self;
-        if is_first {
+        stray.is_called = false;
+        if self.is_called && line.may_be_scramble() {
+            stray.found = Some(at);
+            stray.group = group;
+        } else if is_first {
             stray.begun = if line.may_be_scramble() {
                 Some(at)
             } else {
@@ -155,8 +164,13 @@ impl Solutions {
         let mut rest = text;
         let mut seen = Solutions::none();
         while !rest.is_empty() {
-            seen = seen.after(&first_line(rest, numbers), text.len() - rest.len());
-            rest = &rest[whole_length(rest)..];
+            let line = first_line(rest, numbers);
+            let length = whole_length(rest);
+            seen = seen.after(&line, text.len() - rest.len());
+            if !(line.is_moves || line.is_blank) {
+                seen.stray.is_called = says(&rest[..length], Wanted::Scramble);
+            }
+            rest = &rest[length..];
         }
         let may_be_written_out = seen.is_under && seen.listed == 1 && seen.is_line;
         seen.is_written_out = may_be_written_out && ends_written_out(text, numbers);

@@ -1,7 +1,7 @@
 //! A text that has only solutions, of scrambles that are known: which part of it is of which scramble, and what its
 //! lines are after that scramble.
-ghost use Rattle.std.specs.Prelude.{◌≡◌, ◌≤◌, ◌<◌, ◌+◌, ◌⊎◌, ℕ, MatchOption, length, drop, get_or, set, take};
-ghost use Rattle.niss_text.specs.Known.{AreKnown, AreApart, AreCounted, HaveLines};
+ghost use Rattle.std.specs.Prelude.{◌≡◌, ◌≤◌, ◌<◌, ◌+◌, ◌⊎◌, ◌||◌, ℕ, false, MatchOption, is_some, length, drop, get_or, set, take};
+ghost use Rattle.niss_text.specs.Known.{AreKnown, AreApart, AreAssigned, AreCounted, AreNamedAs, AreOf, AreSaid, IsCountedAlone, IsName, IsNumbered, HaveHeads, HaveLines, HaveNames, have_numbers, scramble_with};
 ghost use Rattle.niss_text.specs.Lines.{Counts, Takes};
 
 use crate::attempts::{Progress, put_attempts, put_solution};
@@ -56,7 +56,9 @@ fn put_part(parts: &mut [KnownPart], count: usize, part: KnownPart)
 }
 
 /// The scramble of which a head has this number, from 0, or the highest number of all if it has none.
-fn scramble_of_number(number: Option<usize>) -> usize {
+fn scramble_of_number(number: Option<usize>) -> usize
+    ensures { result ≡ scramble_with number }
+{
     match number {
         Some(number) if number > 0 => number - 1,
         _ => usize::MAX,
@@ -68,6 +70,7 @@ impl Reading {
     fn nothing() -> Reading
         ensures begin { (result.read.at ≡ 0) × (result.read.lines ≡ 0) }
         ensures none { result.parts ≡ 0 }
+        ensures unnumbered { result.has_numbers ≡ false }
     {
         Reading {
             read: Progress::nothing(),
@@ -95,6 +98,17 @@ impl Reading {
         ensures lines { HaveLines 0 (take self.parts parts.old) self.read.lines → result.parts ≤ length parts.new →
             HaveLines 0 (take result.parts parts.new) result.read.lines }
         ensures behind_parts { drop result.parts parts.new ≡ drop result.parts parts.old }
+        ensures said { self.parts < length parts.old → (none : KnownPart) → (get_or parts.new self.parts none).scramble ≡ scramble_with part.now.number }
+        ensures numbers { result.has_numbers ≡ (self.has_numbers || is_some part.now.number) }
+        ensures behind { drop result.read.lines lines.new ≡ drop result.read.lines lines.old }
+        ensures names { HaveNames text.now (take self.parts parts.old) → IsName text.now part.now.name_begin part.now.name_end →
+            result.parts ≤ length parts.new → HaveNames text.now (take result.parts parts.new) }
+        ensures named { self.parts < length parts.old → (none : KnownPart) →
+            ((get_or parts.new self.parts none).name_begin ≡ part.now.name_begin) × ((get_or parts.new self.parts none).name_end ≡ part.now.name_end) }
+        ensures says { AreSaid text.now (take self.parts parts.old) → IsNumbered text.now part.now → result.parts ≤ length parts.new →
+            AreSaid text.now (take result.parts parts.new) }
+        ensures numbered { self.has_numbers ≡ have_numbers text.now (take self.parts parts.old) → IsNumbered text.now part.now →
+            result.parts ≤ length parts.new → result.has_numbers ≡ have_numbers text.now (take result.parts parts.new) }
     {
         // the parts follow one another
         let begin = part.body.max(self.read.at).min(text.len());
@@ -138,6 +152,10 @@ fn read_parts(
     ensures few { result.parts ≤ count }
     ensures takes { result.read.lines ≤ length lines.new → Takes text.now 0 (take result.read.lines lines.new) result.read.at }
     ensures lines { result.parts ≤ length parts.new → HaveLines 0 (take result.parts parts.new) result.read.lines }
+    ensures says { result.parts ≤ length parts.new → AreSaid text.now (take result.parts parts.new) }
+    ensures names { HaveHeads text.now (take count lines.old) → result.read.lines ≤ length lines.new → result.parts ≤ length parts.new →
+        HaveNames text.now (take result.parts parts.new) }
+    ensures numbered { result.parts ≤ length parts.new → result.has_numbers ≡ have_numbers text.now (take result.parts parts.new) }
     ensures behind_parts { drop result.parts parts.new ≡ drop result.parts parts.old }
 {
     let mut seen = Reading::nothing();
@@ -154,7 +172,8 @@ fn read_parts(
 
 /// Counts how many parts have the number of each scramble.
 fn count_numbers(parts: &[KnownPart], counts: &mut [u64])
-    ensures { AreCounted parts.now counts.new }
+    ensures once { AreCounted parts.now counts.new }
+    ensures alone { IsCountedAlone parts.now counts.new }
 {
     counts.fill(0);
     for part in parts {
@@ -169,6 +188,8 @@ fn scramble_of(part: &KnownPart, place: Option<usize>, counts: &[u64]) -> usize
     ensures known { (result < length counts.now) ⊎ (result ≡ usize.MAX) }
     ensures own { (result ≡ usize.MAX) ⊎ MatchOption place
         ((result < length counts.now) × (get_or counts.now result 0 ≡ 1) × (part.now.scramble ≡ result)) (λ at. result ≡ at) }
+    ensures told { MatchOption place (part.now.scramble < length counts.now → get_or counts.now part.now.scramble 0 ≡ 1 → result ≡ part.now.scramble)
+        (λ at. at < length counts.now → result ≡ at) }
 {
     let scramble = place.unwrap_or(part.scramble);
     if scramble < counts.len() && (place.is_some() || counts[scramble] == 1) {
@@ -183,6 +204,8 @@ fn assign(parts: &mut [KnownPart], is_in_order: bool, counts: &mut [u64])
     ensures known { AreKnown (length counts.old) parts.new }
     ensures lines { (to : ℕ) → HaveLines 0 parts.old to → HaveLines 0 parts.new to }
     ensures apart { AreApart parts.new }
+    ensures named { AreNamedAs parts.old parts.new }
+    ensures own { (none : KnownPart) → AreAssigned is_in_order (length counts.old) (λ k. (get_or parts.old k none).scramble) parts.new }
 {
     count_numbers(parts, counts);
     let mut at = 0;
@@ -214,6 +237,8 @@ pub fn known_lines(
     ensures takes { result.status ≡ 0 → Takes text.now 0 (take result.lines lines.new) (length text.now) }
     ensures known { result.status ≡ 0 → AreKnown (length counts.old) (take result.parts parts.new) }
     ensures apart { result.status ≡ 0 → AreApart (take result.parts parts.new) }
+    ensures names { result.status ≡ 0 → HaveNames text.now (take result.parts parts.new) }
+    ensures are_of { result.status ≡ 0 → AreOf text.now (length counts.old) (take result.parts parts.new) }
     ensures lines { result.status ≡ 0 → HaveLines 0 (take result.parts parts.new) result.lines }
     ensures behind { drop result.parts parts.new ≡ drop result.parts parts.old }
 {

@@ -1,7 +1,9 @@
 //! A line of a text: where its parts are, and what is seen of it.
-ghost use Rattle.std.specs.Prelude.{◌≡◌, ◌≤◌, ◌<◌, ◌+◌, ◌⊎◌, true, false, length, take, drop, slice_index, slice_range};
+ghost use Rattle.std.specs.Prelude.{◌≡◌, ◌≤◌, ◌<◌, ◌+◌, ◌⊎◌, ℕ, true, false, length, take, drop, slice_index, slice_range};
 ghost use Rattle.niss_text.specs.Signs.{ends_line, HasNoMoves};
-ghost use Rattle.niss_text.specs.Kept.{BeginNoMoves, HasOnlyWords, IsTitleEnd, LosesNone, ArePlain, begins_with_move, words_of_head};
+ghost use Rattle.niss_text.specs.Kept.{BeginNoMoves, HasOnlyWords, IsTitleEnd, LosesNone, ArePlain, ArePlainBefore, begins_with_move, words_of_head};
+ghost use Rattle.niss_text.specs.Doubts.{is_capital};
+ghost use Rattle.niss_text.specs.declared.line.Head.TheVariants.{None as NoHead};
 ghost use Rattle.niss_text.specs.Lines.{IsUnbroken, IsEnd, end_of, end_size};
 
 use crate::body::{has_frame, is_whole_scramble};
@@ -77,6 +79,14 @@ pub struct Line {
 /// How many bytes a scramble has at least, on one line: those of fifteen moves.
 const SCRAMBLE_BYTES: usize = 40;
 
+/// Whether moves from one place of a line to another have as many bytes as a scramble, or more.
+pub fn are_long(begin: usize, end: usize) -> bool
+    requires { begin ≤ end }
+    ensures { (result ≡ true → begin + 40 ≤ end) × (begin + 40 ≤ end → result ≡ true) }
+{
+    end - begin >= SCRAMBLE_BYTES
+}
+
 impl Line {
     /// A line of that many bytes, which after its head, if it has one, has nothing but moves from there on, or none at its
     /// end.
@@ -124,7 +134,7 @@ impl Line {
 
     /// Whether its moves are as many as those of a scramble, or more.
     pub fn is_long(&self) -> bool {
-        self.comment - self.moves >= SCRAMBLE_BYTES
+        are_long(self.moves, self.comment)
     }
 
     /// Whether its moves may be a scramble: they are long, and nothing is said of them, but perhaps by words with a number
@@ -147,7 +157,9 @@ pub fn is_blank(line: &[u8]) -> bool {
 }
 
 /// Whether what tells a scramble from others may begin with a byte.
-fn begins_head(byte: u8) -> bool {
+fn begins_head(byte: u8) -> bool
+    ensures { is_capital byte ≡ true → result ≡ false }
+{
     matches!(byte, b'#' | b'(' | b's' | b'S' | b'a' | b'A' | b'e' | b'E') || is_digit_byte(byte)
 }
 
@@ -156,6 +168,7 @@ fn begins_head(byte: u8) -> bool {
 fn head_of(line: &[u8], numbers: Numbers) -> (Head, usize)
     ensures fits { result.1 ≤ length line.now }
     ensures words { HasOnlyWords words_of_head (take result.1 line.now) }
+    ensures none { is_capital (slice_index line.now 0) ≡ true → result.0 ≡ NoHead }
 {
     if line.is_empty() || !begins_head(line[0]) {
         return (Head::None, 0);
@@ -210,6 +223,8 @@ fn line_behind(line: &[u8], head_kind: Head, head: usize) -> Line
     ensures filled { result.is_blank ≡ false }
     ensures comment { begins_with_move (drop result.comment line.now) ≡ false }
     ensures alone { result.is_head_alone ≡ true → HasNoMoves (drop head line.now) }
+    ensures commented { (count : ℕ) → head ≡ 0 → ArePlainBefore line.now count →
+        (result.is_moves ≡ true) × ((result.moves ≡ 0) × (result.comment ≡ count)) }
 {
     let parts = parts_of(line, head);
     let label = &line[parts.label_begin..parts.label_end];
@@ -264,6 +279,7 @@ fn headed_line(line: &[u8], kind: Head, head: usize) -> Line
 fn is_bare(line: &[u8]) -> bool
     ensures some { result ≡ true → 0 < length line.now }
     ensures plain { ArePlain line.now → result ≡ true }
+    ensures slash { result ≡ true → (k : ℕ) → slice_index line.now k ≡ 47 → ⊥ }
 {
     are_plain_moves(line) && line[0] != b'E'
 }
@@ -277,6 +293,8 @@ pub fn line_of(line: &[u8], numbers: Numbers) -> Line
     ensures alone { result.is_head_alone ≡ true → HasNoMoves (drop result.head line.now) }
     ensures comment { begins_with_move (drop result.comment line.now) ≡ false }
     ensures plain { ArePlain line.now → (result.is_moves ≡ true) × ((result.moves ≡ 0) × (result.comment ≡ result.length)) }
+    ensures commented { (count : ℕ) → ArePlainBefore line.now count →
+        (result.is_moves ≡ true) × ((result.moves ≡ 0) × (result.comment ≡ count)) }
 {
     if is_bare(line) {
         return Line::bare((Head::None, 0), 0, line.len(), is_whole_scramble(line));
@@ -324,6 +342,8 @@ pub fn cut_line(text: &[u8], numbers: Numbers) -> (Line, usize)
     ensures comment { begins_with_move (drop result.0.comment (take result.0.length text.now)) ≡ false }
     ensures plain { ArePlain (take result.0.length text.now) →
         (result.0.is_moves ≡ true) × ((result.0.moves ≡ 0) × (result.0.comment ≡ result.0.length)) }
+    ensures commented { (count : ℕ) → ArePlainBefore (take result.0.length text.now) count →
+        (result.0.is_moves ≡ true) × ((result.0.moves ≡ 0) × (result.0.comment ≡ count)) }
 {
     let length = line_length(text);
     let line = line_of(&text[..length], numbers);

@@ -1,6 +1,6 @@
 //! Where the parts of a line are after its head: its label, its moves, and what is said after them.
-ghost use Rattle.std.specs.Prelude.{◌≡◌, ◌≤◌, false, length, drop, take, slice_range};
-ghost use Rattle.niss_text.specs.Kept.{BeginNoMoves, IsTitleEnd, begins_with_move};
+ghost use Rattle.std.specs.Prelude.{◌≡◌, ◌≤◌, ℕ, true, false, length, drop, take, slice_range};
+ghost use Rattle.niss_text.specs.Kept.{ArePlain, ArePlainBefore, BeginNoMoves, IsTitleEnd, begins_with_move};
 
 use crate::forms::{blanks, comment_at, label_of, margin};
 use crate::heads::number_length;
@@ -44,6 +44,7 @@ fn title_of(line: &[u8]) -> (usize, usize)
     ensures fits { result.1 ≤ length line.now }
     ensures none { result.0 ≡ 0 → result.1 ≡ 0 }
     ensures end { IsTitleEnd (slice_range line.now result.0 result.1) }
+    ensures plain { ArePlain line.now → result.1 ≡ 0 }
 {
     match label_of(line) {
         Some(label) => (label.words, label.length),
@@ -59,6 +60,8 @@ pub fn parts_of(line: &[u8], head: usize) -> Parts
     ensures margin { BeginNoMoves (slice_range line.now head result.label_begin) }
     ensures title { IsTitleEnd (slice_range line.now result.label_end result.moves) }
     ensures comment { begins_with_move (drop result.comment line.now) ≡ false }
+    ensures plain { (count : ℕ) → head ≡ 0 → ArePlainBefore line.now count →
+        (result.is_moves ≡ true) × ((result.moves ≡ 0) × (result.comment ≡ count)) }
 {
     let slashes = head + comment_at(from_place(line, head));
     let begin = head + numbering(&line[head..slashes]);

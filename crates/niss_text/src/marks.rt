@@ -6,7 +6,7 @@ use crate::sights::is_letter;
 use crate::sign::{Class, is_digit_byte, length_of, trimmed};
 use crate::words::{is_end_name, is_step_name, names_place};
 
-/// Whether a text begins with a number of times, such as `x2` or `2x`.
+/// Whether a text begins with a number of times, such as `x2` or `2x`, and not with a block, such as `2x2x3`.
 fn begins_times(text: &[u8]) -> bool {
     if text.len() < 2 {
         return false;
@@ -14,7 +14,8 @@ fn begins_times(text: &[u8]) -> bool {
     let (first, second) = (text[0], text[1]);
     let is_before = matches!(first, b'x' | b'X' | b'*') && is_digit_byte(second);
     let is_behind = is_digit_byte(first) && matches!(second, b'x' | b'X');
-    is_before || is_behind
+    let is_block = text.len() > 2 && is_digit_byte(text[2]);
+    is_before || (is_behind && !is_block)
 }
 
 /// Where a comment, which begins with two slashes if there is one, says that moves are made several times.
@@ -46,6 +47,21 @@ fn last_word(moves: &[u8]) -> usize
         is_parted = is_blank;
     }
     begin
+}
+
+/// Whether a text, up to a blank, is a number that counts no moves, but may be one that was read wrongly: `02`, `0` or `82`.
+pub fn is_no_count(text: &[u8]) -> bool {
+    if text.is_empty() || !is_digit_byte(text[0]) {
+        return false;
+    }
+    let has_two = text.len() > 1 && is_digit_byte(text[1]);
+    let after = if has_two { &text[2..] } else { &text[1..] };
+    is_parted(after) && (text[0] == b'0' || (has_two && text[0] > b'6'))
+}
+
+/// Whether a text is empty, or begins with a blank.
+fn is_parted(text: &[u8]) -> bool {
+    text.is_empty() || matches!(text[0], b' ' | b'\t')
 }
 
 /// How many letters of ASCII a text begins with.
@@ -162,6 +178,11 @@ pub fn defined_mark(lead: &[u8]) -> Option<usize>
         return None;
     }
     Some(lead.len() - words.len())
+}
+
+/// Whether moves have a slice: in a long line a printed F or B may have been read as its letter.
+pub fn has_slice(moves: &[u8]) -> bool {
+    moves.iter().any(|byte| matches!(*byte, b'E' | b'M' | b'S'))
 }
 
 /// Whether all that stands after moves is a mark at which others belong, such as `*` or `[^]`. More than two such signs part

@@ -1,37 +1,60 @@
 //! The parts of a text that has only solutions, of scrambles that are known: what stands under each head, or in each block
 //! if the text has no heads.
-ghost use Rattle.std.specs.Prelude.{◌≤◌, ◌<◌, length};
+ghost use Rattle.std.specs.Prelude.{◌≡◌, ◌≤◌, ◌<◌, ◌==◌, ◌||◌, ◌&&◌, ◌⊎◌, true, false, not, None, is_some, length, take};
+ghost use Rattle.niss_text.specs.Known.{with_digit, is_extra, head_number, number_of_line, HaveHeads, IsName, IsNamed, IsNumbered};
+ghost use Rattle.niss_text.specs.Doubts.{is_letter};
 
 use crate::moves::part_of;
 use crate::sights::is_letter;
 use crate::sign::is_digit_byte;
 use crate::text_line::{LineKind, TextLine};
 
-/// A number with one more digit.
-fn with_digit(number: usize, digit: u8) -> usize {
+/// A number, or none, with one more digit.
+fn with_digit(number: Option<usize>, digit: u8) -> usize
+    ensures { result ≡ with_digit number digit }
+{
     number
+        .unwrap_or(0)
         .saturating_mul(10)
         .saturating_add(usize::from(digit.saturating_sub(b'0')))
 }
 
+/// Whether a byte that is no digit says that a head has this number, or none: it ends that, or is the letter of extras.
+fn ends_number(number: Option<usize>, has_letters: bool, byte: u8) -> bool
+    ensures { result ≡ (is_some number || (not has_letters && is_extra byte)) }
+{
+    number.is_some() || (!has_letters && (byte == b'e' || byte == b'E'))
+}
+
+/// Whether there are letters, with one more byte.
+fn or_letter(has_letters: bool, byte: u8) -> bool
+    ensures { result ≡ (has_letters || is_letter byte) }
+{
+    has_letters || is_letter(byte)
+}
+
 /// The number of a head, if it has one: extras, such as `E1`, have others.
 #[inline(never)]
-pub fn number_in(head: &[u8]) -> Option<usize> {
+pub fn number_in(head: &[u8]) -> Option<usize>
+    ensures { result ≡ head_number head.now }
+{
     let mut number = None;
     let mut has_letters = false;
     for byte in head {
         if is_digit_byte(*byte) {
-            number = Some(with_digit(number.unwrap_or(0), *byte));
-        } else if number.is_some() || (!has_letters && matches!(*byte, b'e' | b'E')) {
+            number = Some(with_digit(number, *byte));
+        } else if ends_number(number, has_letters, *byte) {
             return number;
         }
-        has_letters = has_letters || is_letter(*byte);
+        has_letters = or_letter(has_letters, *byte);
     }
     number
 }
 
 /// The number of the head of a line, if it has one with a number.
-fn number_of(text: &[u8], line: &TextLine) -> Option<usize> {
+fn number_of(text: &[u8], line: &TextLine) -> Option<usize>
+    ensures { result ≡ number_of_line text.now line.now }
+{
     if line.is_headed == 0 {
         return None;
     }
@@ -71,7 +94,11 @@ pub struct Part {
 
 impl Part {
     /// Before its first line.
-    fn nothing() -> Part {
+    fn nothing() -> Part
+        ensures name { (result.name_begin ≡ 0) × (result.name_end ≡ 0) }
+        ensures number { result.number ≡ None }
+        ensures none { result.has_head ≡ false }
+    {
         Part {
             begin: 0,
             body: 0,
@@ -105,7 +132,13 @@ impl Part {
     }
 
     /// With one more line, of whose head this is the number.
-    fn with(self, line: &TextLine, number: Option<usize>) -> Part {
+    fn with(self, line: &TextLine, number: Option<usize>) -> Part
+        ensures named { (line.now.is_headed ≡ 0 → ⊥) → self.has_head ≡ false →
+            (result.name_begin ≡ line.now.begin) × (result.name_end ≡ line.now.head_end) × (result.number ≡ number) }
+        ensures kept { (line.now.is_headed ≡ 0) ⊎ (self.has_head ≡ true) →
+            (result.name_begin ≡ self.name_begin) × (result.name_end ≡ self.name_end) × (result.number ≡ self.number) }
+        ensures has { result.has_head ≡ (self.has_head || not (line.now.is_headed == 0)) }
+    {
         let is_blank = line.is_a(LineKind::Blank);
         if line.is_headed != 0 {
             return self.with_head(line, number, !is_blank);
@@ -123,7 +156,10 @@ impl Part {
     }
 
     /// After a line that isn't blank.
-    fn begun(self, line: &TextLine) -> Part {
+    fn begun(self, line: &TextLine) -> Part
+        ensures kept { (result.name_begin ≡ self.name_begin) × (result.name_end ≡ self.name_end) × (result.number ≡ self.number) }
+        ensures has { result.has_head ≡ self.has_head }
+    {
         Part {
             begin: if self.is_begun {
                 self.begin
@@ -136,7 +172,13 @@ impl Part {
     }
 
     /// With a line that has a head.
-    fn with_head(self, line: &TextLine, number: Option<usize>, has_body: bool) -> Part {
+    fn with_head(self, line: &TextLine, number: Option<usize>, has_body: bool) -> Part
+        ensures named { self.has_head ≡ false →
+            (result.name_begin ≡ line.now.begin) × (result.name_end ≡ line.now.head_end) × (result.number ≡ number) }
+        ensures kept { self.has_head ≡ true →
+            (result.name_begin ≡ self.name_begin) × (result.name_end ≡ self.name_end) × (result.number ≡ self.number) }
+        ensures has { result.has_head ≡ true }
+    {
         let mut part = self.begun(line);
         if !self.has_head {
             part.name_begin = line.begin;
@@ -156,6 +198,9 @@ impl Part {
 pub fn first_part(text: &[u8], lines: &[TextLine], is_by_blocks: bool) -> (Part, usize)
     ensures fits { result.1 ≤ length lines.now }
     ensures some { 0 < length lines.now → 0 < result.1 }
+    ensures numbered { IsNumbered text.now result.0 }
+    ensures named { IsNamed (take result.1 lines.now) result.0 }
+    ensures name { HaveHeads text.now lines.now → IsName text.now result.0.name_begin result.0.name_end }
 {
     let mut part = Part::nothing();
     let mut rest = lines;

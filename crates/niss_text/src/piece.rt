@@ -1,7 +1,8 @@
 //! The pieces of a text, one after another: single bytes of moves, and what is read otherwise or left out.
-ghost use Rattle.std.specs.Prelude.{◌≡◌, ◌<◌, ◌≤◌, false, length, IfSome};
-ghost use Rattle.niss_text.specs.Pieces.{IsFirst, is_title};
+ghost use Rattle.std.specs.Prelude.{◌≡◌, ◌<◌, ◌≤◌, false, None, length, take, slice_index, IfSome};
+ghost use Rattle.niss_text.specs.Pieces.{IsFirst, IsLabel, is_title};
 ghost use Rattle.niss_text.specs.declared.piece.Place.TheVariants.{Among};
+ghost use Rattle.niss_text.specs.declared.piece.Piece.TheVariants.{Kept};
 ghost use Rattle.niss_text.specs.Signs.{begins_number, begins_count};
 
 use crate::forms::{count_length, label_of, line_length};
@@ -64,7 +65,8 @@ impl Place {
 
 /// How many bytes the head or the label has in front of a text; 0 if there is none.
 fn title_length(line: &[u8]) -> usize
-    ensures { result ≤ length line.now }
+    ensures fits { result ≤ length line.now }
+    ensures is { 0 < result → IsLabel (take result line.now) }
 {
     if let Some(label) = label_of(line) {
         return label.length;
@@ -91,6 +93,8 @@ fn begins_count(first: u8, second: u8) -> bool
 fn form_of_moves(text: &[u8]) -> Option<(Piece, usize)>
     ensures first { IfSome result (λ first. IsFirst text.now first.0 first.1) }
     ensures untitled { IfSome result (λ first. is_title first.0 ≡ false) }
+    ensures kept { IfSome result (λ first. first.0 ≡ Kept → ⊥) }
+    ensures none { result ≡ None → slice_index text.now 0 ≡ 47 → slice_index text.now 1 ≡ 47 → ⊥ }
 {
     if text.len() < 2 {
         return None;

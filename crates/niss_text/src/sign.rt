@@ -1,7 +1,10 @@
 //! The signs of a text: those that are told apart, however many bytes they have, and else single bytes.
-ghost use Rattle.std.specs.Prelude.{◌≡◌, ◌<◌, ◌≤◌, ◌-◌, ℕ, true, [], ◌∷◌, length, take, drop, slice_index, IfSome};
-ghost use Rattle.niss_text.specs.Signs.{IsSign, HasNoMoves, is_digit, is_letter, is_skipped};
-ghost use Rattle.niss_text.specs.declared.sign.Class.TheVariants.{Skipped};
+ghost use Rattle.std.specs.Prelude.{◌≡◌, ◌<◌, ◌≤◌, ◌-◌, ℕ, true, false, not, None, [], ◌∷◌, length, take, drop, slice_index, IfSome, MatchOption};
+ghost use Rattle.niss_text.specs.Signs.{IsSign, HasNoMoves, is_digit, is_letter, is_of_words, is_skipped, is_kept, is_changed, is_spacing, begins_changed, ends_word, AreSigns, AreWords};
+ghost use Rattle.niss_text.specs.Doubts.{is_capital};
+ghost use Rattle.niss_text.specs.Kept.{HasTurns, IsTurnUpTo, is_turn};
+ghost use Rattle.niss_text.specs.declared.sign.Kind.TheVariants.{Capital};
+ghost use Rattle.niss_text.specs.declared.sign.Class.TheVariants.{NoBlanks, Skipped, Words};
 
 /// What a sign is. A byte that begins none of the longer ones is one by itself, also if it isn't UTF-8.
 #[derive(Clone, Copy, PartialEq, Eq)]
@@ -50,9 +53,13 @@ pub struct Sign {
 
 /// What a byte of ASCII is.
 #[inline(always)]
-#[tactic(auto, unfolding(crate::specs::Signs::is_of_moves))]
+#[tactic(auto, unfolding(crate::specs::Signs::is_of_moves, crate::specs::Signs::parts_words, crate::specs::Signs::is_line_end, crate::specs::Signs::is_blank, crate::specs::Signs::is_unseen, crate::specs::Signs::is_comma, crate::specs::Signs::is_apostrophe, crate::specs::Signs::is_colon, crate::specs::Signs::is_changed))]
 fn kind_of_byte(byte: u8) -> Kind
-    ensures { IsSign result (byte ∷ []) }
+    ensures is { IsSign result (byte ∷ []) }
+    ensures kept { is_kept result ≡ true → is_changed (byte ∷ []) ≡ false }
+    ensures turn { is_turn byte ≡ true → ends_word result ≡ false }
+    ensures capital { is_capital byte ≡ true → result ≡ Capital }
+    ensures blank { byte ≡ 32 → (is_skipped result ≡ true) × (ends_word result ≡ true) }
 {
     match byte {
         b'\n' | b'\r' => Kind::LineEnd,
@@ -75,9 +82,11 @@ fn kind_of_byte(byte: u8) -> Kind
 }
 
 /// What two bytes are together, if that is told apart.
-#[tactic(auto, using(crate::proofs::SignLemmas::two), unfolding(crate::specs::Signs::is_of_moves))]
+#[tactic(auto, using(crate::proofs::SignLemmas::two), unfolding(crate::specs::Signs::is_of_moves, crate::specs::Signs::parts_words, crate::specs::Signs::is_line_end, crate::specs::Signs::is_blank, crate::specs::Signs::is_unseen, crate::specs::Signs::is_comma, crate::specs::Signs::is_apostrophe, crate::specs::Signs::is_colon, crate::specs::Signs::is_changed))]
 fn kind_of_two(first: u8, second: u8) -> Option<Kind>
-    ensures { IfSome result (λ kind. IsSign kind (first ∷ second ∷ [])) }
+    ensures is { IfSome result (λ kind. IsSign kind (first ∷ second ∷ [])) }
+    ensures changed { IfSome result (λ kind. is_kept kind ≡ false) }
+    ensures none { result ≡ None → is_changed (first ∷ second ∷ []) ≡ false }
 {
     match (first, second) {
         (b'\r', b'\n') => Some(Kind::LineEnd),
@@ -89,9 +98,11 @@ fn kind_of_two(first: u8, second: u8) -> Option<Kind>
 }
 
 /// What three bytes are together, of which the first is 0xe2 and the second 0x80.
-#[tactic(auto, using(crate::proofs::SignLemmas::three))]
+#[tactic(auto, using(crate::proofs::SignLemmas::three, crate::proofs::SignLemmas::words_three), unfolding(crate::specs::Signs::is_line_end, crate::specs::Signs::is_blank, crate::specs::Signs::is_unseen, crate::specs::Signs::is_comma, crate::specs::Signs::is_apostrophe, crate::specs::Signs::is_colon, crate::specs::Signs::is_changed))]
 fn kind_of_punctuation(third: u8) -> Option<Kind>
-    ensures { IfSome result (λ kind. IsSign kind (226 ∷ 128 ∷ third ∷ [])) }
+    ensures is { IfSome result (λ kind. IsSign kind (226 ∷ 128 ∷ third ∷ [])) }
+    ensures kept { MatchOption result (is_changed (226 ∷ 128 ∷ third ∷ []) ≡ false)
+        (λ kind. is_kept kind ≡ true → is_changed (226 ∷ 128 ∷ third ∷ []) ≡ false) }
 {
     match third {
         0x80..=0x8a | 0xa8 | 0xa9 | 0xaf => Some(Kind::Blank),
@@ -104,9 +115,12 @@ fn kind_of_punctuation(third: u8) -> Option<Kind>
 }
 
 /// What three bytes are together, if that is told apart.
-#[tactic(auto, using(crate::proofs::SignLemmas::three))]
+#[tactic(auto, using(crate::proofs::SignLemmas::three), unfolding(crate::specs::Signs::is_line_end, crate::specs::Signs::is_blank, crate::specs::Signs::is_unseen, crate::specs::Signs::is_comma, crate::specs::Signs::is_apostrophe, crate::specs::Signs::is_colon, crate::specs::Signs::is_changed))]
 fn kind_of_three(first: u8, second: u8, third: u8) -> Option<Kind>
-    ensures { IfSome result (λ kind. IsSign kind (first ∷ second ∷ third ∷ [])) }
+    ensures is { IfSome result (λ kind. IsSign kind (first ∷ second ∷ third ∷ [])) }
+    ensures kept { MatchOption result (is_changed (first ∷ second ∷ third ∷ []) ≡ false)
+        (λ kind. is_kept kind ≡ true → is_changed (first ∷ second ∷ third ∷ []) ≡ false) }
+    ensures beyond { IfSome result (λ kind. 128 ≤ first) }
 {
     match (first, second, third) {
         (0xe2, 0x80, third) => kind_of_punctuation(third),
@@ -124,6 +138,10 @@ pub fn first_sign(text: &[u8]) -> Sign
     ensures some { 0 < result.length }
     ensures fits { result.length ≤ length text.now }
     ensures is { IsSign result.kind (take result.length text.now) }
+    ensures kept { is_kept result.kind ≡ true → begins_changed text.now ≡ false }
+    ensures turn { is_turn (slice_index text.now 0) ≡ true → (ends_word result.kind ≡ false) × (result.length ≡ 1) }
+    ensures capital { is_capital (slice_index text.now 0) ≡ true → result.kind ≡ Capital }
+    ensures blank { slice_index text.now 0 ≡ 32 → (is_skipped result.kind ≡ true) × (ends_word result.kind ≡ true) }
 {
     // no longer sign begins with another byte of ASCII
     if text[0] < 0x80 && text[0] != b'\r' {
@@ -142,6 +160,7 @@ fn longer_sign(text: &[u8]) -> Sign
     ensures some { 0 < result.length }
     ensures fits { result.length ≤ length text.now }
     ensures is { IsSign result.kind (take result.length text.now) }
+    ensures kept { is_kept result.kind ≡ true → begins_changed text.now ≡ false }
 {
     if text.len() > 1 {
         if let Some(kind) = kind_of_two(text[0], text[1]) {
@@ -166,12 +185,18 @@ pub fn one_sign(text: &[u8]) -> Sign
     ensures some { 0 < result.length }
     ensures fits { result.length ≤ length text.now }
     ensures is { IsSign result.kind (take result.length text.now) }
+    ensures kept { is_kept result.kind ≡ true → begins_changed text.now ≡ false }
+    ensures turn { is_turn (slice_index text.now 0) ≡ true → (ends_word result.kind ≡ false) × (result.length ≡ 1) }
+    ensures capital { is_capital (slice_index text.now 0) ≡ true → result.kind ≡ Capital }
+    ensures blank { slice_index text.now 0 ≡ 32 → (is_skipped result.kind ≡ true) × (ends_word result.kind ≡ true) }
 {
     first_sign(text)
 }
 
 /// What the first sign of a text is, a line end of none.
-pub fn first_kind(text: &[u8]) -> Kind {
+pub fn first_kind(text: &[u8]) -> Kind
+    ensures { is_capital (slice_index text.now 0) ≡ true → result ≡ Capital }
+{
     if text.is_empty() {
         Kind::LineEnd
     } else {
@@ -195,13 +220,16 @@ pub fn is_letter_byte(byte: u8) -> bool
 
 /// Whether a sign parts what stands beside it.
 pub fn is_skipped(kind: Kind) -> bool
-    ensures { result ≡ is_skipped kind }
+    ensures is { result ≡ is_skipped kind }
+    ensures words { result ≡ true → is_of_words kind ≡ true }
 {
     matches!(kind, Kind::Blank | Kind::Unseen)
 }
 
 /// Whether a sign is one of a word.
-pub fn is_of_word(kind: Kind) -> bool {
+pub fn is_of_word(kind: Kind) -> bool
+    ensures { result ≡ true → is_of_words kind ≡ true }
+{
     matches!(
         kind,
         Kind::Digit | Kind::Capital | Kind::Small | Kind::Beyond | Kind::Inner
@@ -209,7 +237,9 @@ pub fn is_of_word(kind: Kind) -> bool {
 }
 
 /// Whether a sign is a letter, or a byte beyond ASCII.
-pub fn is_letter(kind: Kind) -> bool {
+pub fn is_letter(kind: Kind) -> bool
+    ensures { kind ≡ Capital → result ≡ true }
+{
     matches!(
         kind,
         Kind::Capital | Kind::Small | Kind::Beyond | Kind::Inner
@@ -235,7 +265,9 @@ pub enum Class {
 impl Class {
     /// Whether a sign is of it.
     fn has(self, kind: Kind) -> bool
-        ensures { self ≡ Skipped → result ≡ is_skipped kind }
+        ensures skipped { self ≡ Skipped → result ≡ is_skipped kind }
+        ensures words { self ≡ Words → result ≡ true → is_of_words kind ≡ true }
+        ensures no_blanks { self ≡ NoBlanks → result ≡ not (ends_word kind) }
     {
         match self {
             Class::Skipped => is_skipped(kind),
@@ -263,6 +295,10 @@ pub fn behind(text: &[u8], class: Class) -> &[u8]
     ensures fits { length result.now ≤ length text.now }
     ensures rest { result.now ≡ drop (length text.now - length result.now) text.now }
     ensures skipped { class ≡ Skipped → HasNoMoves (take (length text.now - length result.now) text.now) }
+    ensures spacing { class ≡ Skipped → AreSigns is_spacing (take (length text.now - length result.now) text.now) }
+    ensures words { class ≡ Words → AreWords (take (length text.now - length result.now) text.now) }
+    ensures turns { class ≡ NoBlanks → HasTurns text.now → IsTurnUpTo text.now (length text.now - length result.now) }
+    ensures unblank { class ≡ Skipped → slice_index result.now 0 ≡ 32 → ⊥ }
 {
     // a loop for the one that is asked for most, which has only its test
     match class {
@@ -277,6 +313,10 @@ fn passed(text: &[u8], class: Class) -> &[u8]
     ensures fits { length result.now ≤ length text.now }
     ensures rest { result.now ≡ drop (length text.now - length result.now) text.now }
     ensures skipped { class ≡ Skipped → HasNoMoves (take (length text.now - length result.now) text.now) }
+    ensures spacing { class ≡ Skipped → AreSigns is_spacing (take (length text.now - length result.now) text.now) }
+    ensures words { class ≡ Words → AreWords (take (length text.now - length result.now) text.now) }
+    ensures turns { class ≡ NoBlanks → HasTurns text.now → IsTurnUpTo text.now (length text.now - length result.now) }
+    ensures unblank { class ≡ Skipped → slice_index result.now 0 ≡ 32 → ⊥ }
 {
     let mut rest = text;
     while !rest.is_empty() {
@@ -295,6 +335,8 @@ pub fn trimmed(text: &[u8]) -> &[u8]
     ensures fits { length result.now ≤ length text.now }
     ensures rest { result.now ≡ drop (length text.now - length result.now) text.now }
     ensures skipped { HasNoMoves (take (length text.now - length result.now) text.now) }
+    ensures spacing { AreSigns is_spacing (take (length text.now - length result.now) text.now) }
+    ensures unblank { slice_index result.now 0 ≡ 32 → ⊥ }
 {
     // most texts begin with none
     if !text.is_empty() && text[0] > b' ' && text[0] < 0x80 {
@@ -318,7 +360,9 @@ pub fn digits_length(text: &[u8]) -> usize
 
 /// How many bytes the signs of a class in front of a text have.
 pub fn length_of(text: &[u8], class: Class) -> usize
-    ensures { result ≤ length text.now }
+    ensures fits { result ≤ length text.now }
+    ensures words { class ≡ Words → AreWords (take result text.now) }
+    ensures turns { class ≡ NoBlanks → HasTurns text.now → IsTurnUpTo text.now result }
 {
     text.len() - behind(text, class).len()
 }

@@ -1,6 +1,6 @@
 //! How far letters and signs spell moves.
 ghost use Rattle.std.specs.Prelude.{◌≡◌, true};
-ghost use Rattle.niss_text.specs.Doubts.{is_capital};
+ghost use Rattle.niss_text.specs.Doubts.{is_capital, is_letter};
 
 use crate::sign::Kind;
 
@@ -50,7 +50,8 @@ impl Spelling {
 
 /// Whether a byte is the capital of a move.
 pub fn is_capital_move(byte: u8) -> bool
-    ensures { is_capital byte ≡ true → result ≡ true }
+    ensures outer { is_capital byte ≡ true → result ≡ true }
+    ensures letter { result ≡ true → is_letter byte ≡ true }
 {
     matches!(
         byte,

@@ -1,5 +1,5 @@
 //! The words of a line: moves that stand alone, moves in one word, and words that are no moves.
-ghost use Rattle.std.specs.Prelude.{◌≡◌, ◌≤◌, ◌<◌, ◌==◌, ◌||◌, true, false, length, drop, IfSome, IsSome};
+ghost use Rattle.std.specs.Prelude.{◌≡◌, ◌≤◌, ◌<◌, ◌==◌, ◌||◌, ℕ, true, false, length, drop, slice_index, IfSome, IsSome};
 ghost use Rattle.niss_text.specs.Doubts.{is_capital};
 ghost use Rattle.niss_text.specs.Kept.{ArePlain, follows, is_over, begins_with_move};
 ghost use Rattle.niss_text.specs.declared.word.Word.TheVariants.{Move};
@@ -64,7 +64,8 @@ fn is_parting(kind: Kind) -> bool {
 
 /// Whether a byte may follow another one where all is moves by capitals, each a word of its own.
 fn follows_moves(before: u8, byte: u8) -> bool
-    ensures { follows before byte ≡ true → result ≡ true }
+    ensures plain { follows before byte ≡ true → result ≡ true }
+    ensures slash { result ≡ true → byte ≡ 47 → ⊥ }
 {
     match byte {
         b' ' => true,
@@ -78,6 +79,7 @@ fn follows_moves(before: u8, byte: u8) -> bool
 pub fn are_plain_moves(text: &[u8]) -> bool
     ensures some { result ≡ true → 0 < length text.now }
     ensures plain { ArePlain text.now → result ≡ true }
+    ensures slash { result ≡ true → (k : ℕ) → slice_index text.now k ≡ 47 → ⊥ }
 {
     if text.is_empty() || text[0] == b' ' {
         return false;
@@ -238,8 +240,7 @@ fn is_joint(kind: Kind, byte: u8) -> bool {
     }
 }
 
-/// What is seen of the word that a text begins with, or of its part up to such a sign, and how many bytes it has, one sign
-/// at least.
+/// What is seen of the word in front of a text, or of its part up to such a sign, and its bytes: one sign at least.
 #[inline(never)]
 fn spelled(text: &[u8], is_part: bool) -> (Seen, usize)
     requires { 0 < length text.now }

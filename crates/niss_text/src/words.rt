@@ -3,6 +3,7 @@ ghost use Rattle.std.specs.Prelude.{◌≡◌, ◌≤◌, ◌<◌, length, take,
 ghost use Rattle.std.specs.List.{Contains};
 ghost use Rattle.niss_text.specs.Kept.{small, words_of_head};
 
+use crate::sights::is_capital;
 use crate::sign::{Class, Kind, first_kind, is_letter_byte, length_of, trimmed};
 
 /// A letter of ASCII as a small one.
@@ -81,6 +82,8 @@ pub enum Wanted {
     Solutions,
     /// The one that counts.
     Final,
+    /// What solvers call a scramble.
+    Scramble,
     /// The inverse, for the side of the moves.
     Inverse,
     /// What makes the inverse something else than the side of these moves.
@@ -95,6 +98,7 @@ impl Wanted {
             Wanted::Solution => fits_one_of(word, SOLUTIONS, true),
             Wanted::Solutions => is_word(word, b"solutions"),
             Wanted::Final => is_word(word, b"final"),
+            Wanted::Scramble => fits_one_of(word, SCRAMBLES, true),
             Wanted::Inverse => fits_one_of(word, b"inverse,inv", true),
             Wanted::Switch => fits_one_of(word, b"normal,niss,switch,premove,premoves", true),
         }
@@ -104,6 +108,10 @@ impl Wanted {
 /// What solvers call a solution, or what they wrote down for the judge. Only letters of ASCII may be capital ones.
 const SOLUTIONS: &[u8] =
     b"solution,submitted,l\xc3\xb6sung,l\xc3\xb6sning,soluci\xc3\xb3n,solucion,soluzione,solu\xc3\xa7\xc3\xa3o,rozwi\xc4\x85zanie,oplossing,\xc3\xa7\xc3\xb6z\xc3\xbcm,\xc3\x87\xc3\xb6z\xc3\xbcm,\xd1\x80\xd0\xb5\xd1\x88\xd0\xb5\xd0\xbd\xd0\xb8\xd0\xb5,\xd0\xa0\xd0\xb5\xd1\x88\xd0\xb5\xd0\xbd\xd0\xb8\xd0\xb5,\xe8\xa7\xa3\xe6\xb3\x95,\xe8\xa7\xa3\xe7\xad\x94,\xed\x92\x80\xec\x9d\xb4";
+
+/// What solvers call a scramble.
+const SCRAMBLES: &[u8] =
+    b"scramble,scr,mischung,verdrehung,m\xc3\xa9lange,melange,mezcla,mescolata,embaralhamento,\xd1\x81\xd0\xba\xd1\x80\xd0\xb0\xd0\xbc\xd0\xb1\xd0\xbb,\xd0\xa1\xd0\xba\xd1\x80\xd0\xb0\xd0\xbc\xd0\xb1\xd0\xbb,\xe6\x89\x93\xe4\xb9\xb1,\xe6\x89\x93\xe4\xba\x82,\xe3\x82\xb9\xe3\x82\xaf\xe3\x83\xa9\xe3\x83\xb3\xe3\x83\x96\xe3\x83\xab,\xec\x8a\xa4\xed\x81\xac\xeb\x9e\xa8\xeb\xb8\x94";
 
 /// Whether solvers call a step so.
 pub fn is_step_name(word: &[u8]) -> bool {
@@ -173,21 +181,26 @@ pub enum Topic {
     Unread,
 }
 
+/// How many bytes the longest word that says so by itself has with the sign after it.
+const MOST_BYTES: usize = 9;
+
 /// What is said by the letters that a text begins with, after others.
 pub fn first_topic(text: &[u8], before: &[u8]) -> Option<Topic> {
     let is_beyond = !text.is_empty() && text[0] >= 0x80;
     let sides = if is_beyond { SIDES_BEYOND } else { SIDES };
-    let word = &text[..length_of(text, Class::Letters)];
+    // what goes on isn't looked at: it may be long
+    let begin = &text[..text.len().min(MOST_BYTES)];
+    let word = &begin[..length_of(begin, Class::Letters)];
     if fits_one_of(text, sides, false)
         || is_letter_of_inverse(text, before)
-        || is_short_side(word)
+        || is_short_side(text, word)
     {
         Some(Topic::Side)
     } else if fits_one_of(text, REPETITIONS, false) {
         Some(Topic::Repetition)
     } else if fits_one_of(word, CORRECTIONS, true) || begins_insertion(text, is_beyond) {
         Some(Topic::Insertion)
-    } else if fits_one_of(text, LINKS, false) || is_wide_letter(text) {
+    } else if fits_one_of(text, LINKS, false) || is_unread(text, word, before.is_empty()) {
         Some(Topic::Unread)
     } else {
         None
@@ -197,7 +210,7 @@ pub fn first_topic(text: &[u8], before: &[u8]) -> Option<Topic> {
 /// Letters by which solvers name another side of the cube than the normal one, on which moves are read anyway, or a change
 /// of it, or moves before the others.
 const SIDES: &[u8] =
-    b"inv,niss,premo,pre-mo,pre mo,pr\xc3\xa9,setup mo,undo,switch,side,revers,backward,back to normal,r\xc3\xbcck,odwr,andere seite,vorz,envers,rev\xc3\xa9s,previos,przedr,omge,andersom,ters,omv,bakl";
+    b"inv,niss,premo,pre-mo,pre mo,pr\xc3\xa9,setup mo,start with,end with,do at the end,undo,switch,side,revers,backward,back to normal,r\xc3\xbcck,odwr,andere seite,vorz,envers,rev\xc3\xa9s,previos,przedr,omge,andersom,ters,omv,bakl";
 
 /// The same in Russian, without the first letter, which may be a capital, in Chinese and Japanese, and in Korean.
 const SIDES_BEYOND: &[u8] =
@@ -208,13 +221,47 @@ const REPETITIONS: &[u8] = b"twice,thrice,times,again,once more,repeat";
 
 /// Letters by which solvers say that moves belong into others or in their place, or that others belong into these.
 const INSERTIONS: &[u8] =
-    b"inser,einf,wstaw,instead,should be,replac,correct,oops,skele,squel,esquel,schele";
+    b"inser,einf,wstaw,instead,should be,must be,replac,correct,oops,skele,squel,esquel,schele,between,corner cycle,edge cycle";
 
 /// Words by which solvers say the same.
-const CORRECTIONS: &[u8] = b"ins,edit,update,typo";
+const CORRECTIONS: &[u8] = b"ins,edit,update,typo,mistake";
 
 /// How a link begins, or the moves in one.
 const LINKS: &[u8] = b"http,www.,alg=";
+
+/// Whether a text begins with what may be a move that isn't read as one; whose letters are this word.
+fn is_unread(text: &[u8], word: &[u8], is_first: bool) -> bool {
+    is_wide_letter(text) || looks_like_turn(text, is_first) || (is_first && is_half_read(word))
+}
+
+/// Whether a word is a capital letter of a turn with one that a printed 2 or apostrophe is taken for.
+fn is_half_read(word: &[u8]) -> bool {
+    word.len() == 2
+        && is_capital(word[0])
+        && matches!(word[1], b'I' | b'T' | b'Z' | b'l' | b'i' | b'z')
+}
+
+/// Whether a text begins with a letter of another alphabet that looks like a turn's, with nothing after it but what a turn may
+/// have. One without that is mostly a word; not so if it comes first.
+fn looks_like_turn(text: &[u8], is_first: bool) -> bool {
+    if text.len() < 2 || !is_alike(text[0], text[1]) {
+        return false;
+    }
+    match first_kind(&text[2..]) {
+        Kind::Digit | Kind::Prime | Kind::Apostrophe => true,
+        Kind::Blank | Kind::LineEnd => is_first,
+        _ => false,
+    }
+}
+
+/// Whether two bytes are a capital letter of Cyrillic or Greek that looks like B, E or M.
+fn is_alike(first: u8, second: u8) -> bool {
+    match first {
+        0xd0 => matches!(second, 0x92 | 0x95 | 0x9c),
+        0xce => matches!(second, 0x92 | 0x95 | 0x9c),
+        _ => false,
+    }
+}
 
 /// Whether a text begins with a capital letter as wide as a Chinese sign.
 fn is_wide_letter(text: &[u8]) -> bool {
@@ -239,9 +286,9 @@ fn is_letter_of_inverse(text: &[u8], before: &[u8]) -> bool {
     is_last && (text[0] == b'I' || before.is_empty() || before[before.len() - 1] < 0x80)
 }
 
-/// Whether a word is a short one for moves before others, or for another side.
-fn is_short_side(word: &[u8]) -> bool {
-    fits_one_of(word, b"pre,rev,sw", true)
+/// Whether a word is a short one for moves before others, or for another side; so is what stands last, as in a label.
+fn is_short_side(text: &[u8], word: &[u8]) -> bool {
+    fits_one_of(word, b"pre,pm,rev,sw", true) || is_word(text, b"setup")
 }
 
 /// Whether a text begins with the word for a side, after what ends with "normal" and a sign: that is the side on which

@@ -64,6 +64,7 @@ export class Nets {
   #timer = 0;
   #open = "";
   #pointed = "";
+  /** what is seen */ #drawn: unknown[] = [];
   /** of which sides it is said why a piece is bad */ #asked: readonly Side[] = SIDES;
   #choice = part("marks");
   #play = part("play");
@@ -104,8 +105,8 @@ export class Nets {
   /** Shows a cube, and the line that leads to it from the scramble. @param ask for the cube after each move */
   show(views: Record<Side, View>, walk: Walk, ask: () => Promise<Frame[]>) {
     this.stop();
-    this.#pointed = "";
-    this.#views = views;
+    // a list marks once it is there
+    [this.#pointed, this.#open, this.#views] = ["", "", views];
     this.#total = lastOf(walk.totals);
     this.#looks = looksOf(walk);
     [this.#last, this.#at] = [this.#looks.length - 1, this.#looks.length - 1];
@@ -215,6 +216,10 @@ export class Nets {
   #draw() {
     if (this.#views === null) return;
     const { views, choice } = this.#shown();
+    // what the focus and an open list mark is the same, and each of the stickers would have its style once more
+    const drawn = [views, choice, this.#at, this.#frames];
+    if (drawn.every((each, at) => each === this.#drawn[at])) return;
+    this.#drawn = drawn;
     const { made } = this.#looks[this.#at];
     for (const side of SIDES) {
       part(`marked-${side}`).textContent = showMarked(this.#nets[side], side, views[side], choice);

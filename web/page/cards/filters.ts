@@ -101,7 +101,7 @@ export const filtersOfBest = () => [
   chosen<Row>("best-next", reducedAfter(namesOf(ORIENTATIONS)), ({ next }, marks) => next?.marks === marks),
 ];
 
-/** The filters of a card, which says how many of them are on; a button clears them. */
+/** The filters of a card; a button, which says how many of them are on, clears them. */
 export class Filters<Row> {
   /** @param changed says whether there are rows that may be left */
   constructor(private readonly name: string, note: HTMLElement, public kinds: Kind<Row>[], changed: () => boolean) {
@@ -112,7 +112,8 @@ export class Filters<Row> {
     }
     part(`${name}-clear`).addEventListener("click", () => {
       // what is hidden can't keep the focus
-      (part(`${name}-on`).closest("summary") ?? this.#fields()[0]).focus({ preventScroll: true });
+      const [first] = this.#fields();
+      (first.closest("details")?.querySelector("summary") ?? first).focus({ preventScroll: true });
       this.clear();
       if (changed()) announce(note.textContent);
     });
@@ -135,9 +136,7 @@ export class Filters<Row> {
   }
 
   show() {
-    const { count, name } = this;
-    tell(part(`${name}-on`), count === 0 ? "" : `${count} on`);
-    part(`${name}-clear`).hidden = count === 0;
+    tell(part(`${this.name}-clear`), this.count === 0 ? "" : `Clear ${counted(this.count, "filter")}`);
   }
 
   #fields() {

@@ -78,11 +78,14 @@ export class KeptCandidates {
   /** the names of those that are to be compared, and of those whose set-ups are seen */
   #compared: string[] = [];
   #unfolded = new Set<string>();
+  /** takes the text of all once it is known what they are, if they are to be copied then */
+  #toCopy: ((text: string) => void) | null = null;
   #list = part("kept-list");
   #way = new WayTo(part("bar-kept"), part("kept"), part("kept-heading"));
 
   constructor(private readonly calls: Calls, private readonly acts: KeptActs) {
-    part("copy-kept").addEventListener("click", (event) => copy(this.#text(), event.currentTarget));
+    part("copy-kept").addEventListener("click", ({ currentTarget }) =>
+      copy(this.#text() || new Promise<string>((take) => { this.#toCopy = take; }), currentTarget));
     part("kept-back").addEventListener("click", () => {
       acts.change(present(this.#before));
       announce("The line is kept again.");
@@ -104,6 +107,7 @@ export class KeptCandidates {
       return;
     }
     this.#walks = [];
+    this.#toCopy = null;
     this.#offerBack(null);
     const { length } = candidates;
     this.#way.show(length === 0 ? "" : `★ ${length}`, `Kept: ${counted(length, "line")}`);
@@ -148,6 +152,7 @@ export class KeptCandidates {
       this.#walks = walks;
       [this.#scramble, this.#line] = [written, scramble];
       this.#draw();
+      this.#toCopy?.(this.#text());
     } catch (fault) {
       if (candidates !== this.#candidates || fault instanceof Stopped) return;
       tell(part("alert"), `The lines that are kept can't be read: ${wordsOfFault(fault)}.`);

@@ -126,6 +126,9 @@ export class SolutionList {
   #take(rows: Rows) {
     this.#rows = rows;
     setBusy("solutions", false);
+    // one row leaves nothing to choose
+    const isOfUse = rows.entries.length > 1 || part("filter").value !== "" || part("filter").matches(":focus");
+    part("list-moves").hidden = !isOfUse;
     this.#order();
     const all = `${rows.whole ? "" : "more than "}${counted(rows.all, "solution")}`;
     announce(`${nameOfList(present(this.#list))}: ${all}.`);

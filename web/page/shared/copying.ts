@@ -47,14 +47,23 @@ function showUncopied(text: string) {
   field.setSelectionRange(0, text.length);
 }
 
-export async function copy(text: string, button: HTMLElement) {
+/** Hands a text to the browser at once, if that takes it also one that is still to come: later it forgets the press. */
+async function handOver(text: string | Promise<string>) {
+  const { clipboard } = navigator;
+  if (typeof text === "string") return clipboard.writeText(text);
+  if (!clipboard.write || !globalThis.ClipboardItem) return clipboard.writeText(await text);
+  const plain = text.then((words) => new Blob([words], { type: "text/plain" }));
+  return clipboard.write([new ClipboardItem({ "text/plain": plain })]);
+}
+
+export async function copy(text: string | Promise<string>, button: HTMLElement) {
   if (text === "") return;
   try {
-    await navigator.clipboard.writeText(text);
-    announce(`Copied: ${text}`);
+    await handOver(text);
+    announce(`Copied: ${await text}`);
     sayOn(button, "Copied");
   } catch {
-    showUncopied(text);
+    showUncopied(await text);
     sayOn(button, "Not copied");
   }
 }

@@ -1,12 +1,12 @@
 use Rattle.std.proofs.Common.{ℕ, List, [], map, sym, subst}
 use Rattle.niss_moves.specs.Reader.{IsFed}
-use Rattle.niss_embed.specs.declared.parts.Brackets.TheVariants.{Kept}
+use Rattle.niss_embed.specs.declared.step_reading.Reading.TheVariants.{AsWritten}
 use Rattle.niss_embed.specs.declared.parts.How.{How}
 use Rattle.niss_embed.specs.Parts.{arranged, read_byte}
 use Rattle.niss_embed.proofs.parts.feed_part.Goals as goal
 
 abbrev kept : List ℕ → List ℕ
-kept bytes = map (read_byte Kept) bytes
+kept bytes = map (read_byte AsWritten) bytes
 
 pub returns-in-Alone : goal.returns-in-Alone
 returns-in-Alone c =

@@ -1,6 +1,6 @@
 use Rattle.std.proofs.Common.{◌+◌, ℕ, List, map, subst}
 use Rattle.std.specs.Prelude.{IfSome, slice_index, slice_range}
-use Rattle.niss_embed.specs.declared.parts.Brackets.TheVariants.{Dropped}
+use Rattle.niss_embed.specs.declared.step_reading.Reading.TheVariants.{WithoutBrackets}
 use Rattle.niss_embed.specs.Corners.{Reads}
 use Rattle.niss_embed.specs.Parts.{read_byte}
 use Rattle.niss_embed.proofs.CornerLines.{bare_reads}
@@ -8,7 +8,7 @@ use Rattle.niss_embed.proofs.repeated_steps.corners_of_bare.Goals as goal
 
 pub returns : goal.returns
 returns c scramble is =
-    subst (λ (step : List ℕ). IfSome c.corners_of_step.result (Reads (map (read_byte Dropped) step))) c.stretch.ensures.is c.corners_of_step.ensures
+    subst (λ (step : List ℕ). IfSome c.corners_of_step.result (Reads (map (read_byte WithoutBrackets) step))) c.stretch.ensures.is c.corners_of_step.ensures
 
 pub returns-then-around-2 : goal.returns-then-around-2
 returns-then-around-2 c scramble is =

@@ -1,6 +1,6 @@
 use Rattle.std.proofs.Common.{◌≡◌, ℕ, List, ◌++◌, map, subst, append_assoc}
 use Rattle.niss_moves.specs.Reader.{Reader, IsFed}
-use Rattle.niss_embed.specs.declared.parts.Brackets.TheVariants.{Dropped}
+use Rattle.niss_embed.specs.declared.step_reading.Reading.TheVariants.{WithoutBrackets}
 use Rattle.niss_embed.specs.Parts.{read_byte}
 use Rattle.niss_embed.proofs.repeated_steps.feed_times.Goals as goal
 
@@ -16,10 +16,10 @@ three_times front bytes reader fed =
 
 pub returns-then-thrice-clause-bytes : goal.returns-then-thrice-clause-bytes
 returns-then-thrice-clause-bytes c front fed =
-    rw c.if-thrice.true (three_times front (map (read_byte Dropped) c.args.step.now) c.feed-then-thrice.new.reader
+    rw c.if-thrice.true (three_times front (map (read_byte WithoutBrackets) c.args.step.now) c.feed-then-thrice.new.reader
     (c.feed-then-thrice.ensures.bytes _ (c.feed-2.ensures.bytes _ (c.feed.ensures.bytes front fed))))
 
 pub returns-else-thrice-clause-bytes : goal.returns-else-thrice-clause-bytes
 returns-else-thrice-clause-bytes c front fed =
-    rw c.if-thrice.false (twice front (map (read_byte Dropped) c.args.step.now) c.feed-2.new.reader
+    rw c.if-thrice.false (twice front (map (read_byte WithoutBrackets) c.args.step.now) c.feed-2.new.reader
     (c.feed-2.ensures.bytes _ (c.feed.ensures.bytes front fed)))

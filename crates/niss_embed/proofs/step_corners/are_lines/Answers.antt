@@ -1,5 +1,5 @@
 use Rattle.std.proofs.Common.{◌≡◌, ◌∙◌, ◌+◌, ◌-◌, ◌<◌, Bool, false, true, ℕ, List, ◌∷◌, [], ◌++◌, length, get_or, map, sym, ap, arith, subst, length-append}
-use Rattle.niss_embed.specs.declared.parts.Brackets.TheVariants.{Kept}
+use Rattle.niss_embed.specs.declared.step_reading.Reading.TheVariants.{AsWritten}
 use Rattle.niss_embed.specs.declared.step_corners.StepCorners.{StepCorners}
 use Rattle.niss_embed.specs.Corners.{Reads}
 use Rattle.niss_embed.specs.Parts.{read_byte, steps_line}
@@ -38,7 +38,7 @@ pub loop-at-preserved : goal.loop-at-preserved
 loop-at-preserved c = elim c.match-corners_of_step.branch [
   | in-Some w ↦ read_step c.args.text.now c.args.bounds.now c.loop-at.at c.loop-at.steps.items w.push.new.self.items c.match-corners_of_step.steps.items w.in-Some.step
       c.loop-at.all c.match-corners_of_step.all c.loop-at.invariant.number w.push.ensures.items (λ i. (w.steps-is i).items) w.all-is c.loop-at.invariant.reads
-      (subst (λ (bytes : List ℕ). Reads (map (read_byte Kept) bytes) w.in-Some.step) c.stretch.ensures.is w.in-Some.ensures)
+      (subst (λ (bytes : List ℕ). Reads (map (read_byte AsWritten) bytes) w.in-Some.step) c.stretch.ensures.is w.in-Some.ensures)
   | in-None w ↦ unread_step c.args.text.now c.args.bounds.now c.loop-at.at c.loop-at.steps.items w.push-in-None.new.self.items c.match-corners_of_step.steps.items w.nothing.result
       c.match-corners_of_step.all c.loop-at.invariant.number w.push-in-None.ensures.items (λ i. (w.steps-is i).items) w.all-is
 ]

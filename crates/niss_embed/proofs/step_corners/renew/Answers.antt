@@ -10,7 +10,7 @@ loop-step-preserved c =
     let here : step < length c.args.steps.now = omega (arith, c.loop-step-test.true, c.loop-step.auto.step, c.requires.0) in
     record {
       places = search (rules, c.loop-step.invariant.places);
-      are = λ text bounds are tails. tails_more text bounds c.args.set c.args.steps.now c.loop-step.tails step _ _ c.with_later.result c.has.result are
+      are = λ text bounds are parted tails. tails_more text bounds c.args.set c.args.steps.now c.loop-step.tails step _ _ c.with_later.result c.has.result are parted
           here (omega (arith, here, c.requires.1, c.loop-step.invariant.places)) c.has.ensures c.with_later.ensures
-          (subst (λ (k : ℕ). AreTails text bounds c.args.set k c.loop-step.tails) next (c.loop-step.invariant.are text bounds are tails));
+          (subst (λ (k : ℕ). AreTails text bounds c.args.set k c.loop-step.tails) next (c.loop-step.invariant.are text bounds are parted tails));
     }

@@ -2,7 +2,7 @@ use Rattle.std.proofs.Common.{◌∙◌, ℕ, List, ◌++◌, map, subst, arith}
 use Rattle.std.specs.Prelude.{flat_map}
 use Rattle.std.specs.List.{range_with_len}
 use Rattle.niss_moves.specs.Reader.{IsFed}
-use Rattle.niss_embed.specs.declared.parts.Brackets.TheVariants.{Kept}
+use Rattle.niss_embed.specs.declared.step_reading.Reading.TheVariants.{AsWritten}
 use Rattle.niss_embed.specs.Parts.{read_byte, step_with, in_brackets_if}
 use Rattle.niss_embed.proofs.SetLemmas.{line_more}
 use Rattle.niss_embed.proofs.step_sets.feed_steps.Goals as goal
@@ -15,6 +15,6 @@ loop-step-preserved c =
     record {
       fed = omega (arith, c.feed_step.ensures.fed, c.loop-step.invariant.fed, c.stretch-own.ensures.fits, c.requires.room);
       bytes = subst (IsFed c.feed_step.new.reader)
-          ((λ i. before ++ in_brackets_if (c.has.ensures i) (map (read_byte Kept) (c.stretch-own.ensures.is i))) ∙ line_more text bounds c.args.set c.loop-step.step)
+          ((λ i. before ++ in_brackets_if (c.has.ensures i) (map (read_byte AsWritten) (c.stretch-own.ensures.is i))) ∙ line_more text bounds c.args.set c.loop-step.step)
           (c.feed_step.ensures.bytes before c.loop-step.invariant.bytes);
     }

@@ -16,6 +16,7 @@ loop-number-preserved c =
     let tails : c.args.corners.now.are_lines ≡ true → AreTails text bounds (of n) 0 c.renew.new.tails =
     λ known. c.renew.ensures text bounds
     (subst (λ (steps : List StepCorners). AreSteps text bounds steps) (sym c.as_slice-steps.ensures.value) (c.requires.corners.are_steps known))
+    (c.requires.corners.are_parted known)
     (subst (λ (k : ℕ). AreTails text bounds (of n) (k + 1) c.loop-number.tails) (sym c.first.ensures.is)
     (tails_kept text bounds c.loop-number.tails n some few c.requires.some.1 (c.loop-number.invariant.tails known))) in
     let not : solves_with (Ok c.args.scramble.now) text bounds (of n) ≡ false = elim c.else-may_solve.branch [

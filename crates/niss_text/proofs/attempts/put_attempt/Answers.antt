@@ -38,7 +38,7 @@ loop-at-preserved c =
       end = c.judged-told.ensures.ends ∙ shown.ends;
     } in
     let is_seen : IsSeen (take size (drop now text)) seen =
-    subst (λ (r : List ℕ). IsSeen (take size r) seen) rest (record { kept = cut.kept; blank = cut.blank; alone = cut.alone; comment = cut.comment; plain = cut.plain }) in
+    subst (λ (r : List ℕ). IsSeen (take size r) seen) rest (record { kept = cut.kept; blank = cut.blank; alone = cut.alone; comment = cut.comment; plain = cut.plain; commented = cut.commented }) in
     let has : HasKind seen told.kind = record {
       blank = λ is. c.kind_at.ensures.blank (sym kind ∙ is);
       before = λ is. c.kind_at.ensures.before (sym kind ∙ is);
@@ -58,7 +58,7 @@ loop-at-preserved c =
           subst (λ (n : ℕ). Covers text 0 (take (count + 1) c.put_line.new.lines) n) there
           (subst (λ (ls : List TextLine). Covers text 0 (take (count + 1) ls) (now + whole)) (sym e)
           (covers_next text lines count now size whole told (omega (arith, room, same)) (inv.covers begun (omega (arith, room, same)))
-          begins is (c.judged-told.ensures.ends ∙ c.told_line-told.ensures.ends) unbroken all));
+          begins is (c.judged-told.ensures.ends ∙ c.told_line-told.ensures.ends) unbroken all ended));
       takes = λ begun room.
           subst (λ (n : ℕ). Takes text 0 (take (count + 1) c.put_line.new.lines) n) there
           (subst (λ (ls : List TextLine). Takes text 0 (take (count + 1) ls) (now + whole)) (sym e)
@@ -77,7 +77,7 @@ loop-at-preserved c =
           (one_more (λ ls. Begins text ls) lines count told (inv.begins begun first) (λ lt. (
             now + whole,
             covers_next text lines count now size whole told lt (inv.covers (begun (omega (arith, lt, inv.more, c.loop-at.auto.lines))) (omega (arith, lt)))
-                begins is (c.judged-told.ensures.ends ∙ c.told_line-told.ensures.ends) unbroken all,
+                begins is (c.judged-told.ensures.ends ∙ c.told_line-told.ensures.ends) unbroken all ended,
           )));
       in_order = λ begun first.
           subst (λ (ls : List TextLine). BeginNumbered (take (count + 1) ls)) (sym e)

@@ -14,7 +14,7 @@ returns-then-colon-gt0-clause-words c =
     let w : List (List ℕ) = words_of_head in
     let ended : HasOnlyWords w (take (blanks + colon) after) =
     only_then w after number blanks colon (only_moves w (take blanks after) c.trimmed-number.ensures.skipped) c.trimmed-number.ensures.rest
-    (only_begin w (take colon number) (sign_begins number colon c.sign_length-colon.ensures.is)) in
+    (only_begin w (take colon number) (sign_begins number colon (λ some. (c.sign_length-colon.ensures.is some).1))) in
     let there : word + (blanks + colon) ≡ length line - length number + colon =
     omega (arith, ap length c.from_place.ensures, length-drop word line, c.trimmed-number.ensures.fits, c.head_word_length-word.ensures.fits) in
     subst (λ n. HasOnlyWords w (take n line)) there

@@ -9,4 +9,4 @@ pub returns-then-bracket-gt0-clause-begin : goal.returns-then-bracket-gt0-clause
 returns-then-bracket-gt0-clause-begin c = mark_begins c.args.text.now c.mark_length-bracket.result 41 c.mark_length-bracket.ensures.is (inr (inl refl))
 
 pub returns-clause-begin : goal.returns-clause-begin
-returns-clause-begin c = sign_begins c.args.text.now c.sign_length.result c.sign_length.ensures.is
+returns-clause-begin c = sign_begins c.args.text.now c.sign_length.result (λ some. (c.sign_length.ensures.is some).1)

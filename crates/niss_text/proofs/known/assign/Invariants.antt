@@ -1,6 +1,7 @@
 use Rattle.std.proofs.Common.{◌≡◌, ◌-◌, ◌<◌, ◌≤◌, ◌⊎◌, ℕ, length, get_or, take}
 use Rattle.niss_text.specs.declared.known.KnownPart.{KnownPart}
-use Rattle.niss_text.specs.Known.{AreKnown, HaveLines, IsOwn}
+use Rattle.niss_text.specs.Known.{AreKnown, AreNamedAs, HaveLines, IsOwn}
+use Rattle.niss_text.proofs.KnownLemmas.{IsFull}
 use Rattle.niss_text.proofs.known.assign.Given as goal
 
 abbrev pub invariant-loop-at : goal.invariant-loop-at
@@ -10,6 +11,8 @@ invariant-loop-at l = record {
   rest : (k : ℕ) (none : KnownPart) → l.at ≤ k → get_or l.parts k none ≡ get_or l.initial.parts k none;
   own : (k : ℕ) (none : KnownPart) → k < l.at → ((get_or l.parts k none).scramble ≡ 18446744073709551615)
       ⊎ IsOwn l.is_in_order l.initial.parts l.counts k (get_or l.parts k none).scramble;
+  all : (k : ℕ) (none : KnownPart) → k < l.at → IsFull l.is_in_order l.initial.parts l.counts k (get_or l.parts k none).scramble;
+  named : AreNamedAs l.initial.parts l.parts;
   lines : (to : ℕ) → HaveLines 0 l.initial.parts to → HaveLines 0 l.parts to;
 }
 

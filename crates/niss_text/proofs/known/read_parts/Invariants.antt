@@ -1,5 +1,5 @@
 use Rattle.std.proofs.Common.{◌≡◌, ◌-◌, ◌≤◌, length, take, drop}
-use Rattle.niss_text.specs.Known.{HaveLines}
+use Rattle.niss_text.specs.Known.{AreSaid, HaveHeads, HaveLines, HaveNames, have_numbers}
 use Rattle.niss_text.specs.Lines.{Takes}
 use Rattle.niss_text.proofs.known.read_parts.Given as goal
 
@@ -11,6 +11,11 @@ invariant-loop-next l = record {
   few : l.seen.parts ≤ l.next;
   takes : l.seen.read.lines ≤ length l.lines → Takes l.text 0 (take l.seen.read.lines l.lines) l.seen.read.at;
   have : l.seen.parts ≤ length l.parts → HaveLines 0 (take l.seen.parts l.parts) l.seen.read.lines;
+  says : l.seen.parts ≤ length l.parts → AreSaid l.text (take l.seen.parts l.parts);
+  numbered : l.seen.parts ≤ length l.parts → l.seen.has_numbers ≡ have_numbers l.text (take l.seen.parts l.parts);
+  heads : HaveHeads l.text (take l.count l.initial.lines) → l.seen.read.lines ≤ length l.lines → HaveHeads l.text (take l.count l.lines);
+  names : HaveHeads l.text (take l.count l.initial.lines) → l.seen.read.lines ≤ length l.lines → l.seen.parts ≤ length l.parts →
+      HaveNames l.text (take l.seen.parts l.parts);
   behind : drop l.seen.parts l.parts ≡ drop l.seen.parts l.initial.parts;
 }
 

@@ -1,8 +1,9 @@
 use Rattle.std.proofs.Common.{ℕ, List, ◌≡◌, ◌+◌, ◌-◌, ◌≤◌, length, drop, get_or, length-drop, ap, take, slice_range, sym, ◌∙◌, subst, arith}
-use Rattle.niss_text.specs.Signs.{HasNoMoves}
+use Rattle.niss_text.specs.Signs.{AreSigns, is_spacing}
 use Rattle.niss_text.specs.Kept.{IsTitleEnd}
 use Rattle.niss_text.proofs.KeptLemmas.{blank_title, whole_title, part_long}
 use Rattle.niss_text.proofs.WordLemmas.{comment_begins}
+use Rattle.niss_text.proofs.CommentLemmas.{parts_plain}
 use Rattle.std.proofs.lemmas.List.{get_or-drop}
 use Rattle.niss_text.proofs.line_parts.parts_of.Goals.{then-words-eq0, else-words-eq0, then-span-eq0, else-span-eq0}
 use Rattle.niss_text.proofs.line_parts.parts_of.Goals as goal
@@ -32,9 +33,9 @@ returns-clause-title c =
           (whole_title line begin slashes words title blanks comment c.title_of-words.ensures.order
           (omega (arith, c.title_of-words.ensures.fits, part_long line begin slashes)) c.title_of-words.ensures.end
           (subst (λ n. blanks ≤ comment - n) there fits)
-          (subst (λ n. HasNoMoves (take blanks (slice_range line n comment))) there c.blanks.ensures.empty)))
+          (subst (λ n. AreSigns is_spacing (take blanks (slice_range line n comment))) there c.blanks.ensures.spacing)))
       | else-span-eq0 w ↦
-          subst (λ n. IsTitleEnd (slice_range line n (lead + blanks))) (sym w.result-is) (blank_title line lead comment blanks fits c.blanks.ensures.empty)
+          subst (λ n. IsTitleEnd (slice_range line n (lead + blanks))) (sym w.result-is) (blank_title line lead comment blanks fits c.blanks.ensures.spacing)
     ]
 
 pub returns-clause-comment : goal.returns-clause-comment
@@ -53,3 +54,9 @@ returns-clause-comment c =
     (omega (arith, c.span_of-span.ensures.fits, part_long line body slashes))
     (λ lt. sym (get_or-drop head line c.comment_at.result 0) ∙ ap (λ v. get_or v c.comment_at.result 0) (sym is)
     ∙ c.comment_at.ensures.slash (omega (arith, lt, ap length is, length-drop head line))) c.span_of-span.ensures.tail
+
+pub returns-clause-plain : goal.returns-clause-plain
+returns-clause-plain c = λ count top before.
+    parts_plain c.args.line.now c.from_place.result.now c.args.head c.comment_at.result c.numbering.result c.title_of-words.result.1 c.blanks.result
+    count c.span_of-span.result.begin c.span_of-span.result.end c.span_of-span.result.is_moves top before c.from_place.ensures c.comment_at.ensures.first
+    c.comment_at.ensures.slash c.numbering.ensures.begin c.title_of-words.ensures.plain c.span_of-span.ensures.plain c.blanks.ensures.empty

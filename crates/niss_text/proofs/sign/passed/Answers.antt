@@ -1,7 +1,10 @@
-use Rattle.std.proofs.Common.{take, sym, ◌∙◌, arith}
-use Rattle.niss_text.proofs.SignLemmas.{skipped}
-use Rattle.niss_text.proofs.KeptLemmas.{passed_so_far, passed_none}
-use Rattle.niss_text.specs.Signs.{is_of_moves}
+use Rattle.std.proofs.Common.{◌-◌, length, take, sym, ◌∙◌, arith}
+use Rattle.std.proofs.lemmas.Bool.{not-true}
+use Rattle.niss_text.proofs.SignLemmas.{skipped, worded}
+use Rattle.niss_text.proofs.KeptLemmas.{passed_so_far, passed_none, passed_signs}
+use Rattle.niss_text.proofs.SpacingLemmas.{signs_one, spaced}
+use Rattle.niss_text.specs.Signs.{is_of_moves, is_spacing, is_skipped, ends_word, parts_words}
+use Rattle.niss_text.proofs.TurnLemmas.{turns_more}
 use Rattle.niss_text.proofs.sign.passed.Goals as goal
 
 pub loop-class-preserved : goal.loop-class-preserved
@@ -16,5 +19,13 @@ loop-class-preserved c =
       fits = omega (arith, far.0, inv.fits);
       rest = far.1;
       skipped = λ is. passed_none is_of_moves text rest next sign.result.length inv.fits inv.rest sign.ensures.fits c.from_place-rest.ensures
-          (inv.skipped is) (skipped sign.result.kind (take sign.result.length rest) (sym (c.has.ensures is) ∙ c.if-not-has.false) sign.ensures.is);
+          (inv.skipped is) (skipped sign.result.kind (take sign.result.length rest) (sym (c.has.ensures.skipped is) ∙ c.if-not-has.false) sign.ensures.is);
+      spacing = λ is. passed_signs is_spacing text rest next sign.result.length inv.fits inv.rest sign.ensures.fits c.from_place-rest.ensures
+          (inv.spacing is) (signs_one is_spacing (take sign.result.length rest)
+          (spaced sign.result.kind (take sign.result.length rest) (sym (c.has.ensures.skipped is) ∙ c.if-not-has.false) sign.ensures.is));
+      words = λ is. passed_none parts_words text rest next sign.result.length inv.fits inv.rest sign.ensures.fits c.from_place-rest.ensures
+          (inv.words is) (worded sign.result.kind (take sign.result.length rest) (c.has.ensures.words is c.if-not-has.false) sign.ensures.is);
+      turns = λ is all. turns_more text rest (length text - length rest) (length text - length next) sign.result.length (is_skipped sign.result.kind)
+          (ends_word sign.result.kind) inv.rest (omega (arith, sign.ensures.some, sign.ensures.fits)) (omega (arith, far.0, inv.fits))
+          (not-true (ends_word sign.result.kind) (sym (c.has.ensures.no_blanks is) ∙ c.if-not-has.false)) sign.ensures.turn sign.ensures.blank all (inv.turns is all);
     }

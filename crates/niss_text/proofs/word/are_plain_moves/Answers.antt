@@ -6,4 +6,4 @@ pub returns-then-not-follows_moves-clause-plain : goal.returns-then-not-follows_
 returns-then-not-follows_moves-clause-plain c = λ plain.
     let inv = c.loop-byte.invariant in
     sym c.if-not-follows_moves.true
-    ∙ c.follows_moves.ensures (plain_follows c.args.text.now c.loop-byte.byte-index c.loop-byte.before plain c.loop-byte-test.true inv.first inv.later)
+    ∙ c.follows_moves.ensures.plain (plain_follows c.args.text.now c.loop-byte.byte-index c.loop-byte.before plain c.loop-byte-test.true inv.first inv.later)

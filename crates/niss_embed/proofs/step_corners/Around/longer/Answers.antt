@@ -4,7 +4,7 @@ use Rattle.niss_embed.specs.declared.step_corners.StepCorners.{StepCorners}
 use Rattle.niss_embed.specs.Corners.{Reads, AreSteps}
 use Rattle.niss_embed.specs.Parts.{steps_line}
 use Rattle.niss_embed.proofs.CornerLines.{joined_steps, ascends_between}
-use Rattle.niss_embed.proofs.TailLemmas.{plain_tail}
+use Rattle.niss_embed.proofs.TailLemmas.{plain_tail, steps_stay_dead}
 use Rattle.niss_embed.proofs.step_corners.Around.longer.Goals as goal
 
 -- a step of an equal list
@@ -30,7 +30,8 @@ returns c scramble text bounds first is =
             reads_own = subst (λ (bytes : List ℕ). Reads bytes c.then.result)
                 (joined_steps text (slice_index bounds first) (slice_index bounds step) (slice_index bounds (step + 1))
                 (ascends_between bounds first step up is.ordered.0 is.ordered.1) (up step within))
-                (c.then.ensures (steps_line text bounds first step) (steps_line text bounds step (step + 1)) own.reads_own (one _));
+                (c.then.ensures (steps_line text bounds first step) (steps_line text bounds step (step + 1)) own.reads_own (one _)
+                (steps_stay_dead text bounds first step (step + 1) (is.attempt.are_parted known) up is.ordered.0 (omega arith) within));
             ends = plain_tail text bounds c.args.self.now.attempt.now.tails (step + 1) _ up (is.attempt.are_tails known) within;
           };
     }

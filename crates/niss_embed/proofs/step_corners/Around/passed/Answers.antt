@@ -3,7 +3,7 @@ use Rattle.std.specs.Prelude.{slice_index}
 use Rattle.niss_embed.specs.Corners.{Reads}
 use Rattle.niss_embed.specs.Parts.{steps_line}
 use Rattle.niss_embed.proofs.CornerLines.{joined_steps, ascends_between}
-use Rattle.niss_embed.proofs.TailLemmas.{steps_none}
+use Rattle.niss_embed.proofs.TailLemmas.{steps_none, steps_stay_dead}
 use Rattle.niss_embed.proofs.step_corners.Around.passed.Goals as goal
 
 pub returns : goal.returns
@@ -17,7 +17,8 @@ returns c scramble text bounds first behind is = record {
         reads_before = subst (λ (bytes : List ℕ). Reads bytes c.then.result)
             (joined_steps text (slice_index bounds 0) (slice_index bounds first) (slice_index bounds behind)
             (ascends_between bounds 0 first up (omega arith) (omega (arith, is.ordered.0, is.ordered.1))) (ascends_between bounds first behind up is.ordered.0 is.ordered.1))
-            (c.then.ensures (steps_line text bounds 0 first) (steps_line text bounds first behind) own.reads_before own.reads_own);
+            (c.then.ensures (steps_line text bounds 0 first) (steps_line text bounds first behind) own.reads_before own.reads_own
+            (steps_stay_dead text bounds 0 first behind (is.attempt.are_parted known) up (omega arith) is.ordered.0 is.ordered.1));
         reads_own = subst (λ (bytes : List ℕ). Reads bytes c.nothing.result) (sym (steps_none text bounds behind)) c.nothing.ensures;
         ends = own.ends;
       };

@@ -1,0 +1,83 @@
+-- Whether one of the first numbers passes a test, and what is told of a solution that may be of another scramble.
+use Rattle.std.proofs.Common.{◌≡◌, ◌∙◌, ℕ, zero, suc, ◌+◌, ◌<◌, Bool, true, false, cond, ◌||◌, Result, Ok, Err, length, List, ◌++◌, ◌∷◌, [], refl, ap, subst, arith}
+use Rattle.std.specs.List.{list_any, range_with_len}
+use Rattle.std.proofs.lemmas.List.Folds.{list_any-append}
+use Rattle.niss_text.specs.declared.text_line.TextLine.{TextLine}
+use Rattle.std.proofs.Math.Bool.{or-true}
+use Rattle.std.proofs.lemmas.Bool.{and_right, lt-ltb}
+use Rattle.std.specs.Prelude.{min, nat_lt}
+use Rattle.niss_moves.specs.Line.{Moves}
+use Rattle.niss_moves.specs.Reader.{read_line}
+use Rattle.niss_moves.specs.declared.fault.ReadFault.{ReadFault}
+use Rattle.niss_shell.specs.Words.{most_bytes}
+use Rattle.niss_embed.specs.LineFacts.{check_of, check_read, forms_of, unchecked}
+use Rattle.niss_embed.specs.declared.answer.Status.TheVariants.{Stopped}
+use Rattle.niss_search.proofs.CallerLemmas.{range_push}
+use Rattle.niss_embed.specs.declared.judged.Judged.{Judged}
+use Rattle.niss_embed.specs.Attempts.{Elsewhere, IsOfSome, IsTried, is_open, most_tried, scramble_of, solves_known, solves_some}
+
+-- none does, with one more that doesn't
+pub none_more : (test : ℕ → Bool) (n : ℕ) → list_any test (range_with_len 0 n) ≡ false → test n ≡ false → list_any test (range_with_len 0 (n + 1)) ≡ false
+none_more test n none fails =
+    let last : 0 + n ≡ n = omega arith in
+    ap (list_any test) (range_push 0 n ∙ ap (λ k. range_with_len 0 n ++ k ∷ []) last) ∙ list_any-append test (range_with_len 0 n) (n ∷ []) ∙ (λ i. none i || (fails i || false))
+
+found_from : (test : ℕ → Bool) (first k n : ℕ) → k < n → test (first + k) ≡ true → list_any test (range_with_len first n) ≡ true
+found_from test first k zero less is = absurd (omega (arith, less))
+found_from test first zero (suc n) less is =
+    let same : first + 0 ≡ first = omega arith in
+    ap (λ b. b || list_any test (range_with_len (first + 1) n)) (subst (λ (m : ℕ). test m ≡ true) same is)
+found_from test first (suc k) (suc n) less is =
+    let next : first + suc k ≡ first + 1 + k = omega arith in
+    let rest = found_from test (first + 1) k n (omega (arith, less)) (subst (λ (m : ℕ). test m ≡ true) next is) in
+    ap (λ b. test first || b) rest ∙ or-true (test first)
+
+-- one does
+pub one_passes : (test : ℕ → Bool) (k n : ℕ) → k < n → test k ≡ true → list_any test (range_with_len 0 n) ≡ true
+one_passes test k n less is =
+    let same : k ≡ 0 + k = omega arith in
+    found_from test 0 k n less (subst (λ (m : ℕ). test m ≡ true) same is)
+
+-- A line that is too long, or has a fault, solves no scramble.
+none_of : (test : ℕ → Bool) (n first : ℕ) → ((k : ℕ) → test k ≡ false) → list_any test (range_with_len first n) ≡ false
+none_of test zero first fails = refl
+none_of test (suc n) first fails = λ i. fails first i || none_of test n (first + 1) fails i
+
+long_line : (scramble line : List ℕ) → nat_lt most_bytes (length line) ≡ true → (check_of scramble line).solved ≡ false
+long_line scramble line long = by_tests (nat_lt most_bytes (length scramble)) (nat_lt most_bytes (length line)) long
+  where
+    by_tests : (a b : Bool) → b ≡ true →
+        (cond a (unchecked Stopped 1 0 0) (cond b (unchecked Stopped 2 0 0) (check_read (read_line scramble) (read_line line) (forms_of line)))).solved ≡ false
+    by_tests true b e = refl
+    by_tests false true e = refl
+    by_tests false false e = absurd (cc e)
+
+pub long_solves_none : (scrambles ends line : List ℕ) → most_bytes < length line → solves_some scrambles ends line ≡ false
+long_solves_none scrambles ends line long =
+    none_of (solves_known scrambles ends line) (min most_tried (length ends)) 0
+    (λ n. and_right (nat_lt n (length ends)) _ (long_line (scramble_of scrambles ends n) line (lt-ltb most_bytes (length line) long)))
+
+faulty_line : (scramble line : List ℕ) (f : ReadFault) → read_line line ≡ Err f → (check_of scramble line).solved ≡ false
+faulty_line scramble line f is = by_tests (nat_lt most_bytes (length scramble)) (nat_lt most_bytes (length line))
+  where
+    by_reading : (r q : Result Moves ReadFault) → q ≡ Err f → (check_read r q (forms_of line)).solved ≡ false
+    by_reading (Err g) q e = refl
+    by_reading (Ok m) (Err g) e = refl
+    by_reading (Ok m) (Ok n) e = absurd (cc e)
+
+    by_tests : (a b : Bool) →
+        (cond a (unchecked Stopped 1 0 0) (cond b (unchecked Stopped 2 0 0) (check_read (read_line scramble) (read_line line) (forms_of line)))).solved ≡ false
+    by_tests true b = refl
+    by_tests false true = refl
+    by_tests false false = by_reading (read_line scramble) (read_line line) is
+
+pub faulty_solves_none : (scrambles ends line : List ℕ) (f : ReadFault) → read_line line ≡ Err f → solves_some scrambles ends line ≡ false
+faulty_solves_none scrambles ends line f is =
+    none_of (solves_known scrambles ends line) (min most_tried (length ends)) 0
+    (λ n. and_right (nat_lt n (length ends)) _ (faulty_line (scramble_of scrambles ends n) line f is))
+
+-- what is told if another scramble may be meant
+pub tried_open : (text : List ℕ) (own : List TextLine) (others : Elsewhere) (judged it : Judged) (b : Bool) → b ≡ is_open judged → b ≡ true →
+    IsOfSome text own others judged it → IsTried (is_open judged) text own others judged it
+tried_open text own others judged it true same is some = subst (λ (v : Bool). IsTried v text own others judged it) same some
+tried_open text own others judged it false same is some = absurd (cc is)

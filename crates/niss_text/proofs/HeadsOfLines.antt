@@ -1,0 +1,104 @@
+-- The heads of lines, and the names of parts that these are.
+use Rattle.std.proofs.Common.{◌≡◌, ℕ, ◌+◌, ◌-◌, ◌<◌, ◌≤◌, ◌⊎◌, inl, inr, ◌==◌, Bool, true, false, if◌then◌else◌, Option, Some, MatchOption, List, [], ◌∷◌, length, take, drop, set, get_or, slice_range, refl, sym, subst, ap, ◌∙◌, arith}
+use Rattle.std.specs.List.{All}
+use Rattle.std.proofs.lemmas.Bool.{cases_lt}
+use Rattle.std.proofs.lemmas.List.{get_or-take, get_or-drop, length-take-le, drop-take, take_more_set}
+use Rattle.std.proofs.lemmas.List.Elements.{All-nil, All-cons, All-head, All-tail, All-get_or, All-from_get_or, All-drop, All-push}
+use Rattle.niss_text.specs.Kept.{HasOnlyWords, words_of_head}
+use Rattle.niss_text.specs.Lines.{IsLine, IsTold, end_size}
+use Rattle.niss_text.specs.Known.{IsName, IsNamed, HaveHeads, HaveNames, AreNamedAs}
+use Rattle.niss_text.specs.declared.known.KnownPart.{KnownPart}
+use Rattle.niss_text.specs.declared.parts.Part.{Part}
+use Rattle.niss_text.specs.declared.text_line.TextLine.{TextLine}
+use Rattle.niss_text.proofs.KeptLemmas.{only_none}
+unfoldable use Rattle.niss_text.specs.Lines.{Covers, Takes}
+unfoldable use Rattle.niss_text.specs.Known.{first_headed}
+
+told_name : (text : List ℕ) (line : TextLine) → IsLine line.begin line → IsTold text line → line.end ≤ length text → IsName text line.begin line.head_end
+told_name text line is told within = record {
+  order = is.head;
+  within = omega (arith, is.label, is.words, is.title, is.moves, is.comment, within);
+  words = told.kept.head;
+}
+
+takes_ends : (text : List ℕ) (from : ℕ) (lines : List TextLine) (to : ℕ) → Takes text from lines to → from ≤ to
+unfolding Takes
+takes_ends text from [] to far = far
+takes_ends text from (l ∷ ls) to far =
+    let is : IsLine l.begin l = far.1.0 in
+    omega (arith, far.0, is.head, is.label, is.words, is.title, is.moves, is.comment, takes_ends text (l.end + end_size text l.end) ls to far.1.1.1.4)
+
+pub takes_heads : (text : List ℕ) (from : ℕ) (lines : List TextLine) (to : ℕ) → Takes text from lines to → to ≤ length text → HaveHeads text lines
+unfolding Takes
+takes_heads text from [] to far within = All-nil (λ (l : TextLine). IsName text l.begin l.head_end)
+takes_heads text from (l ∷ ls) to far within =
+    All-cons (λ (l : TextLine). IsName text l.begin l.head_end) l ls
+    (told_name text l far.1.0 far.1.1.0 (omega (arith, takes_ends text (l.end + end_size text l.end) ls to far.1.1.1.4, within)))
+    (takes_heads text (l.end + end_size text l.end) ls to far.1.1.1.4 within)
+
+-- lines that are written over the first ones of others
+pub heads_over : (text : List ℕ) (old new : List TextLine) (n to count : ℕ) (none : TextLine) → Takes text 0 (take n new) to → to ≤ length text → n ≤ length new →
+    drop n new ≡ drop n old → length new ≡ length old → count ≤ length old → HaveHeads text (take count old) → HaveHeads text (take count new)
+heads_over text old new n to count none takes within fits behind same low far =
+    All-from_get_or (λ (l : TextLine). IsName text l.begin l.head_end) (take count new) none by_line
+  where
+    by_place : (k : ℕ) → k < count → (k < n) ⊎ (n ≤ k) → IsName text (get_or new k none).begin (get_or new k none).head_end
+    by_place k lt (inl less) = subst (λ (l : TextLine). IsName text l.begin l.head_end) (get_or-take n new k none less)
+        (All-get_or (λ (l : TextLine). IsName text l.begin l.head_end) (take n new) k none (omega (arith, less, length-take-le n new fits)) (takes_heads text 0 (take n new) to takes within))
+    by_place k lt (inr more) =
+        let split : n + (k - n) ≡ k = omega (arith, more) in
+        let here : get_or new k none ≡ get_or old k none =
+        ap (λ j. get_or new j none) (sym split) ∙ sym (get_or-drop n new (k - n) none) ∙ ap (λ v. get_or v (k - n) none) behind
+        ∙ get_or-drop n old (k - n) none ∙ ap (λ j. get_or old j none) split in
+        subst (λ (l : TextLine). IsName text l.begin l.head_end) (sym here ∙ refl)
+        (subst (λ (l : TextLine). IsName text l.begin l.head_end) (get_or-take count old k none lt)
+        (All-get_or (λ (l : TextLine). IsName text l.begin l.head_end) (take count old) k none (omega (arith, lt, low, length-take-le count old low)) far))
+
+    by_line : (k : ℕ) → k < length (take count new) → IsName text (get_or (take count new) k none).begin (get_or (take count new) k none).head_end
+    by_line k lt =
+        let less : k < count = omega (arith, lt, length-take-le count new (omega (arith, low, same))) in
+        subst (λ (l : TextLine). IsName text l.begin l.head_end) (sym (get_or-take count new k none less)) (by_place k less (cases_lt k n))
+
+-- some of the lines
+pub heads_among : (text : List ℕ) (lines : List TextLine) (from to : ℕ) → from ≤ to → HaveHeads text (take to lines) → HaveHeads text (slice_range lines from to)
+heads_among text lines from to order far =
+    let split : from + (to - from) ≡ to = omega (arith, order) in
+    subst (λ (ls : List TextLine). HaveHeads text ls)
+    (ap (λ n. drop from (take n lines)) (sym split) ∙ drop-take from (to - from) lines)
+    (All-drop (λ (l : TextLine). IsName text l.begin l.head_end) from (take to lines) far)
+
+-- the name of a part of lines
+pub name_of_lines : (text : List ℕ) (lines : List TextLine) (part : Part) → HaveHeads text lines → IsNamed lines part → IsName text part.name_begin part.name_end
+unfolding first_headed
+name_of_lines text [] part far named = record {
+  order = omega (arith, named.1, named.2);
+  within = omega (arith, named.2);
+  words = subst (λ n. HasOnlyWords words_of_head (slice_range text n part.name_end)) (sym named.1)
+      (subst (λ n. HasOnlyWords words_of_head (slice_range text 0 n)) (sym named.2) (only_none words_of_head [] refl));
+}
+name_of_lines text (l ∷ ls) part far named =
+    by_head (l.is_headed == 0) (λ more. name_of_lines text ls part (All-tail (λ (l : TextLine). IsName text l.begin l.head_end) l ls far) more) named
+  where
+    Told : Option TextLine → Type 0
+    Told first = MatchOption first ((part.has_head ≡ false) × (part.name_begin ≡ 0) × (part.name_end ≡ 0))
+        (λ l. (part.has_head ≡ true) × (part.name_begin ≡ l.begin) × (part.name_end ≡ l.head_end))
+
+    by_head : (b : Bool) → (Told (first_headed ls) → IsName text part.name_begin part.name_end) → Told (if b then first_headed ls else Some l) →
+        IsName text part.name_begin part.name_end
+    by_head true later is = later is
+    by_head false later is =
+        subst (λ n. IsName text n part.name_end) (sym is.1) (subst (λ n. IsName text l.begin n) (sym is.2)
+        (All-head (λ (l : TextLine). IsName text l.begin l.head_end) l ls far))
+
+-- parts with the names of others
+pub names_stay : (text : List ℕ) (old new : List KnownPart) (none : KnownPart) → length new ≡ length old → AreNamedAs old new → HaveNames text old → HaveNames text new
+names_stay text old new none long named far =
+    All-from_get_or (λ (p : KnownPart). IsName text p.name_begin p.name_end) new none (λ k lt.
+    subst (λ n. IsName text n (get_or new k none).name_end) (sym (named k none).0)
+    (subst (λ n. IsName text (get_or old k none).name_begin n) (sym (named k none).1)
+    (All-get_or (λ (p : KnownPart). IsName text p.name_begin p.name_end) old k none (omega (arith, lt, long)) far)))
+
+-- what is so of parts, and of one more in memory
+pub all_next : (P : KnownPart → Type 0) (parts : List KnownPart) (n : ℕ) (part : KnownPart) → n < length parts → All P (take n parts) → P part →
+    All P (take (n + 1) (set parts n part))
+all_next P parts n part room far is = subst (λ (ps : List KnownPart). All P ps) (sym (take_more_set parts n part room)) (All-push P (take n parts) part far is)
