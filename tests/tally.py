@@ -1,6 +1,7 @@
 """Counts what holds and what doesn't, and the line that a script of the gate ends with."""
 import os
 import sys
+import time
 from concurrent.futures import ThreadPoolExecutor
 from contextlib import contextmanager
 from typing import Any, Callable, Iterable, Iterator, List, Type, TypeVar
@@ -26,6 +27,19 @@ class Tally:
     def equal(self, what: str, got: object, wanted: object) -> None:
         """Two values that must be the same."""
         self.holds(f"{what}: {short(got)} for {short(wanted)}", got == wanted)
+
+    def soon(self, what: str, seconds: float, call: Callable[[], Found]) -> Found:
+        """What a call returns that takes less than so many seconds of a processor. Others' work may make it many times slower for a while: then it is
+        called again, twice at most."""
+        for tries_left in (2, 1, 0):
+            begun = time.process_time()
+            found = call()
+            took = time.process_time() - begun
+            if took < seconds or not tries_left:
+                break
+            made_again("time", f"{what} took {took:.1f} seconds")
+        self.holds(f"{what} took {took:.1f} seconds, for less than {seconds}", took < seconds)
+        return found
 
     def end(self) -> None:
         """Ends the script by its last line and its status."""

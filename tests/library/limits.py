@@ -7,7 +7,6 @@ The library is that of NISSY_LIBRARY.
 """
 import array
 import sys
-import time
 from pathlib import Path
 from typing import Any, Callable, Iterator, List, Tuple, Union
 
@@ -130,11 +129,12 @@ def bounds(tally: Tally) -> None:
             (cut.count, cut.solutions, str(cut)),
             (part, some, f"the search was cut after {part.nodes:,} nodes"),
         )
-    begun = time.process_time()
-    tally.holds(
-        "the longest search of all ends", raised(nissy.Cut, lambda: nissy.count("eofb", "R", slack=20, nodes=1_000_000))
+    longest = tally.soon(
+        "the longest search of all",
+        20,
+        lambda: raised(nissy.Cut, lambda: nissy.count("eofb", "R", slack=20, nodes=1_000_000)),
     )
-    tally.holds("soon", time.process_time() - begun < 20)
+    tally.holds("it is cut", longest)
     many = list(nissy.count_all("eofb", ["R U F", "F", "R Q", "L D B"], slack=2, nodes=50))
     tally.equal(
         "many lines",

@@ -9,7 +9,6 @@ import array
 import json
 import pickle
 import sys
-import time
 from pathlib import Path
 from typing import Any, Callable, List, Tuple
 
@@ -303,15 +302,12 @@ def wrong_types(tally: Tally) -> None:
 
 def times(tally: Tally) -> None:
     """Long texts are read in a time by their length, on a processor, of which a busy machine has others' work too."""
-    begun = time.process_time()
-    for long in ("\r" * 1_000_000, "R" * 1_000_000, "ab " * 300_000, "9" * 1_000_000, "\u2028 " * 500_000):
-        nissy.plain_line(long)
+    longs = ("\r" * 1_000_000, "R" * 1_000_000, "ab " * 300_000, "9" * 1_000_000, "\u2028 " * 500_000)
+    tally.soon("lines that are long", 20, lambda: [nissy.plain_line(it) for it in longs])
     text = "R\r\n" * 100_000 + "\r" * 100_000
     plain, fault = nissy.plain_line(text), nissy.LineFault(99, "", character=200_001)
-    for _ in range(1000):
-        nissy.place_of(fault, plain, text)
-    tally.equal("a place far below", nissy.place_of(fault, plain, text), (300_000, 100_001, 1))
-    tally.holds("soon", time.process_time() - begun < 20)
+    places = tally.soon("a place far below", 20, lambda: {nissy.place_of(fault, plain, text) for _ in range(1000)})
+    tally.equal("it", places, {(300_000, 100_001, 1)})
 
 
 if __name__ == "__main__":
