@@ -1,28 +1,41 @@
 //! Bad pieces of a cube, with their places, and what it has reached: numbers worked out by hand from what a turn moves.
 use crate::cubes::cube_after;
-use niss_cube::{Axis, Coordinate, Cube, Step};
+use niss_cube::Coordinate::{self, Flip, Slice, Twist};
+use niss_cube::{Axis, Cube, Step};
 
-/// F flips the edges UF, DF, FR and FL, at the places 1, 5, 8 and 9, and twists its four corners for the other two axes. On
-/// these two, two edges of the slice leave it for two others.
+/// The edges UF, DF, FR and FL, at the places 1, 5, 8 and 9.
+const EDGES: u16 = 0b11_0010_0010;
+
+/// The corners that F moves, at the places 0, 1, 4 and 5.
+const CORNERS: u16 = 0b11_0011;
+
+/// F flips its edges, and twists its corners for the other two axes. On these two, two edges of the slice leave it for two
+/// others.
+const AFTER_F: &[(Coordinate, Axis, u16)] = &[
+    (Flip, Axis::Fb, EDGES),
+    (Flip, Axis::Rl, 0),
+    (Twist, Axis::Ud, CORNERS),
+    (Twist, Axis::Rl, CORNERS),
+    (Twist, Axis::Fb, 0),
+    (Slice, Axis::Ud, EDGES),
+    (Slice, Axis::Fb, 0),
+];
+
 #[test]
 fn a_turn_has_its_bad_pieces(rt: HostRuntime) {
     let cube = cube_after(&rt, "F");
-    let edges = (1u16 << 1) + (1 << 5) + (1 << 8) + (1 << 9);
-    let corners = (1u16 << 0) + (1 << 1) + (1 << 4) + (1 << 5);
-    assert!(rt; Coordinate::Flip.bad_places(Axis::Fb, &cube) == edges);
-    assert!(rt; Coordinate::Flip.bad_places(Axis::Rl, &cube) == 0);
-    assert!(rt; Coordinate::Twist.bad_places(Axis::Ud, &cube) == corners);
-    assert!(rt; Coordinate::Twist.bad_places(Axis::Rl, &cube) == corners);
-    assert!(rt; Coordinate::Twist.bad_places(Axis::Fb, &cube) == 0);
-    assert!(rt; Coordinate::Slice.bad_places(Axis::Ud, &cube) == edges);
-    assert!(rt; Coordinate::Slice.bad_places(Axis::Fb, &cube) == 0);
+    for (coordinate, axis, places) in AFTER_F {
+        assert!(rt; coordinate.bad_places(*axis, &cube) == *places);
+    }
 }
 
-/// F disorients edges on the axis of F and B alone, and keeps what a domino reduction to F and B keeps besides.
+/// F disorients edges on the axis of F and B alone, and keeps what a domino reduction to F and B keeps besides: the steps 1, 2,
+/// 6, 8, 9, 11 and 12.
+const REACHED_AFTER_F: u16 = 0b1_1011_0100_0110;
+
 #[test]
 fn what_a_cube_has_reached(rt: HostRuntime) {
-    let reached = (1u16 << 1) + (1 << 2) + (1 << 6) + (1 << 8) + (1 << 9) + (1 << 11) + (1 << 12);
-    assert!(rt; Step::all_reached(&cube_after(&rt, "F")) == reached);
+    assert!(rt; Step::all_reached(&cube_after(&rt, "F")) == REACHED_AFTER_F);
     assert!(rt; Cube::solved().is_solved() && !cube_after(&rt, "F").is_solved());
     assert!(rt; cube_after(&rt, "F F2 F").is_solved());
 }

@@ -60,20 +60,19 @@ impl Row {
     }
 }
 
-/// Up to 20 turns, so many more than the least.
-const fn after(moves: &'static str, slack: u8) -> Search {
-    Search {
-        moves,
-        limit: 20,
-        slack,
-    }
-}
+/// Moves, how many turns at most and how many more than the least; the pairs, which are all taken, the least length, and the
+/// looks.
+type FoundRow = (&'static str, u8, u8, &'static [Written], Option<u8>, u128);
 
-/// A search whose pairs are all taken, with the least length.
-const fn found(search: Search, pairs: &'static [Written], length: Option<u8>, looks: u128) -> Row {
+fn found(row: &FoundRow) -> Row {
+    let (moves, limit, slack, pairs, length, looks) = *row;
     let solutions = pairs.len() as u128;
     Row {
-        search,
+        search: Search {
+            moves,
+            limit,
+            slack,
+        },
         bound: ENOUGH,
         pairs,
         answer: Ok(Outcome { length, solutions }),
@@ -81,16 +80,17 @@ const fn found(search: Search, pairs: &'static [Written], length: Option<u8>, lo
     }
 }
 
-/// A search that ends before it is done.
-const fn ended(
-    search: Search,
-    bound: u128,
-    pairs: &'static [Written],
-    stop: Stopped<Refused>,
-    looks: u128,
-) -> Row {
+/// Of a search after F that ends before it is done: the bound, the pairs, why it ends, and the looks.
+type EndedRow = (u128, &'static [Written], Stopped<Refused>, u128);
+
+fn ended(row: &EndedRow) -> Row {
+    let (bound, pairs, stop, looks) = *row;
     Row {
-        search,
+        search: Search {
+            moves: "F",
+            limit: 20,
+            slack: 0,
+        },
         bound,
         pairs,
         answer: Err(stop),
@@ -134,115 +134,104 @@ const AND_A_TURN_MORE: &[(&str, &str)] = &[
     ("F2 B'", "F'"),
 ];
 
-/// Four turns are needed on one side alone, and two over both.
-const TOO_FEW: Search = Search {
-    moves: "F R U B",
-    limit: 1,
-    slack: 3,
-};
-
 /// Those of no or one turn more than the least: F U, a solution with a turn more, has F as its first turn, which reaches the
-/// step, so it is none of them. Up to one turn no pair reaches the step after F R U B: each side makes one look with no turn,
-/// and one with a turn on the other.
-#[test]
-fn all_pairs_come_in_order(rt: HostRuntime) {
-    let tables = tables_of(&rt, rt.alloc(), Step::Eofb, &mut Meter::new());
-    for row in &[
-        found(after("", 0), &[("", "")], Some(0), 1),
-        found(after("F", 0), AFTER_F, Some(1), 39),
-        found(after("F B", 0), AFTER_F_B, Some(2), 225),
-        found(after("F R U B", 0), AFTER_F_R_U_B, Some(2), 45),
-        found(after("F", 1), AFTER_F, Some(1), 231),
-        found(after("F R U B", 1), AND_A_TURN_MORE, Some(2), 343),
-        found(TOO_FEW, &[], None, 3),
-    ] {
-        row.check(&rt, &tables);
-    }
-    drop(tables);
-}
+/// step, so it is none of them. Up to one turn no pair reaches the step after F R U B, which needs four turns on one side alone,
+/// and two over both: each side makes one look with no turn, and one with a turn on the other.
+const IN_ORDER: &[FoundRow] = &[
+    ("", 20, 0, &[("", "")], Some(0), 1),
+    ("F", 20, 0, AFTER_F, Some(1), 39),
+    ("F B", 20, 0, AFTER_F_B, Some(2), 225),
+    ("F R U B", 20, 0, AFTER_F_R_U_B, Some(2), 45),
+    ("F", 20, 1, AFTER_F, Some(1), 231),
+    ("F R U B", 20, 1, AND_A_TURN_MORE, Some(2), 343),
+    ("F R U B", 1, 3, &[], None, 3),
+];
 
 /// After F: the look with no turn; on the inverse the one at the root, 13 to F and 2 more to F', and 3 after it; on the normal
 /// side the one at the root, and 18 that follow at once, which pass a bound of 38.
+const ENDED: &[EndedRow] = &[
+    (38, &[("", "F"), ("", "F'")], Stopped::Cut, 21),
+    (0, &[], Stopped::Cut, 0),
+    (ENOUGH, &[], Stopped::Refused(Refused), 15),
+    (ENOUGH, &[("", "F")], Stopped::Refused(Refused), 17),
+];
+
+/// All pairs come in order, or a search ends early.
 #[test]
-fn a_search_over_both_sides_ends_early(rt: HostRuntime) {
+fn pairs_come_in_order_until_a_search_ends(rt: HostRuntime) {
     let tables = tables_of(&rt, rt.alloc(), Step::Eofb, &mut Meter::new());
-    let search = after("F", 0);
-    for row in &[
-        ended(search, 38, &[("", "F"), ("", "F'")], Stopped::Cut, 21),
-        ended(search, 0, &[], Stopped::Cut, 0),
-        ended(search, ENOUGH, &[], Stopped::Refused(Refused), 15),
-        ended(search, ENOUGH, &[("", "F")], Stopped::Refused(Refused), 17),
-    ] {
-        row.check(&rt, &tables);
+    for row in IN_ORDER {
+        found(row).check(&rt, &tables);
+    }
+    for row in ENDED {
+        ended(row).check(&rt, &tables);
     }
     drop(tables);
 }
 
 /// R and L turn the corners of this reduction.
+const AFTER_R_U_R: FoundRow = (
+    "R U R",
+    20,
+    0,
+    &[("R", "R"), ("R", "R'"), ("R'", "R"), ("R'", "R'")],
+    Some(2),
+    37,
+);
+
 #[test]
 fn a_reduction_has_pairs(rt: HostRuntime) {
     let tables = tables_of(&rt, rt.alloc(), Step::DrudEofb, &mut Meter::new());
-    let pairs = &[("R", "R"), ("R", "R'"), ("R'", "R"), ("R'", "R'")];
-    found(after("R U R", 0), pairs, Some(2), 37).check(&rt, &tables);
+    found(&AFTER_R_U_R).check(&rt, &tables);
     drop(tables);
 }
 
-/// A search for pairs of one length on some sides after F, the pairs, and how often it looks.
-type LengthRow = (Sides, u8, &'static [Written], u128);
+/// A search after F for pairs of one length on some sides, with all of twins or one, the pairs, and how often it looks.
+type LengthRow = (Sides, Ends, u8, &'static [Written], u128);
 
-/// The looks of all lengths together are those of the search over both sides.
+/// The looks of all lengths together are those of the search over both sides: on each side there is one at the cube, and one
+/// after each of 18 turns. Of twins one comes, on each side, if one is enough.
 const LENGTHS: &[LengthRow] = &[
-    (Sides::Both, 0, &[], 1),
-    (Sides::Both, 1, AFTER_F, 38),
-    (Sides::Both, 2, &[], 192),
-    (Sides::Normal, 1, &[("F", ""), ("F'", "")], 19),
-    (Sides::Inverse, 1, &[("", "F"), ("", "F'")], 19),
+    (Sides::Both, Ends::Any, 0, &[], 1),
+    (Sides::Both, Ends::Any, 1, AFTER_F, 38),
+    (Sides::Both, Ends::Any, 2, &[], 192),
+    (
+        Sides::Both,
+        Ends::NotCounter,
+        1,
+        &[("", "F"), ("F", "")],
+        38,
+    ),
+    (Sides::Normal, Ends::Any, 1, &[("F", ""), ("F'", "")], 19),
+    (Sides::Inverse, Ends::Any, 1, &[("", "F"), ("", "F'")], 19),
 ];
+
+fn check_length(rt: &impl Abort, tables: &Tables, row: &LengthRow) {
+    let (sides, ends, turns, pairs, looks) = *row;
+    let wanted = PairsWanted {
+        sides,
+        ends,
+        length: Limit::new(turns).expect(rt, "a length"),
+    };
+    let cube = start(rt, tables, "F");
+    let mut meter = Meter::new();
+    let mut sink = PairComparison::new(pairs);
+    let from = StepFrom {
+        tables,
+        cube: &cube,
+    };
+    let answer = search_pairs_of_length(&from, wanted, &mut meter, &mut sink, ENOUGH);
+    assert!(rt; sink.took_all(), "{turns}");
+    assert!(rt; answer == Ok(pairs.len() as u128), "{turns}");
+    assert!(rt; meter.count() == looks, "{turns}");
+}
 
 #[test]
 fn pairs_have_a_length_and_sides(rt: HostRuntime) {
     let tables = tables_of(&rt, rt.alloc(), Step::Eofb, &mut Meter::new());
-    let cube = start(&rt, &tables, "F");
-    for (sides, turns, pairs, looks) in LENGTHS {
-        let wanted = PairsWanted {
-            sides: *sides,
-            ends: Ends::Any,
-            length: Limit::new(*turns).expect(&rt, "a length"),
-        };
-        let mut meter = Meter::new();
-        let mut sink = PairComparison::new(pairs);
-        let from = StepFrom {
-            tables: &tables,
-            cube: &cube,
-        };
-        let answer = search_pairs_of_length(&from, wanted, &mut meter, &mut sink, ENOUGH);
-        assert!(rt; sink.took_all(), "{turns}");
-        assert!(rt; answer == Ok(pairs.len() as u128), "{turns}");
-        assert!(rt; meter.count() == *looks, "{turns}");
+    for row in LENGTHS {
+        check_length(&rt, &tables, row);
     }
-    drop(tables);
-}
-
-/// Of twins one comes, on each side: of each search there is a look at the cube, and one after each of 18 turns.
-#[test]
-fn one_of_twins_may_be_enough(rt: HostRuntime) {
-    let tables = tables_of(&rt, rt.alloc(), Step::Eofb, &mut Meter::new());
-    let cube = start(&rt, &tables, "F");
-    let wanted = PairsWanted {
-        sides: Sides::Both,
-        ends: Ends::NotCounter,
-        length: Limit::new(1).expect(&rt, "a length"),
-    };
-    let mut meter = Meter::new();
-    let mut sink = PairComparison::new(&[("", "F"), ("F", "")]);
-    let from = StepFrom {
-        tables: &tables,
-        cube: &cube,
-    };
-    let answer = search_pairs_of_length(&from, wanted, &mut meter, &mut sink, ENOUGH);
-    assert!(rt; sink.took_all());
-    assert!(rt; answer == Ok(2));
-    assert!(rt; meter.count() == 38);
     drop(tables);
 }
 

@@ -92,6 +92,16 @@ const STANDING_BEFORE: &[(&str, usize)] = &[
     ("U D R", 28),
 ];
 
+/// Behind F' B2 nothing is handed out.
+const fn behind_the_last(answer: Result<u128, Stopped<Refused>>) -> Behind<'static> {
+    Behind {
+        limit: 2,
+        after: "F' B2",
+        paths: &[],
+        answer,
+    }
+}
+
 /// F' B2 is the last of two turns. Behind it there is a look at the root, one after F' and one after F' B', one after each of
 /// B, B2 and B', which come after F', and since B2 leaves what a turn of F orients, 12 after it; F may not follow there. A
 /// bound of 16 cuts the search before these 12.
@@ -111,19 +121,8 @@ fn any_sequence_has_a_place_in_the_order(rt: HostRuntime) {
         };
         check_behind(&rt, &tables, &position, behind, AMPLE);
     }
-    let last = Behind {
-        limit: 2,
-        after: "F' B2",
-        paths: &[],
-        answer: Ok(0),
-    };
-    assert!(&rt; check_behind(&rt, &tables, &position, last, 18) == 18);
-    let cut = Behind {
-        limit: 2,
-        after: "F' B2",
-        paths: &[],
-        answer: Err(Stopped::Cut),
-    };
+    assert!(&rt; check_behind(&rt, &tables, &position, behind_the_last(Ok(0)), 18) == 18);
+    let cut = behind_the_last(Err(Stopped::Cut));
     assert!(&rt; check_behind(&rt, &tables, &position, cut, 16) == 5);
     drop(tables);
 }

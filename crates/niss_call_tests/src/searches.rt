@@ -58,23 +58,23 @@ impl Search {
     }
 }
 
-/// A search, the paths that its sink takes before it refuses one, the answer, and the looks at positions.
-#[derive(Clone, Copy)]
-struct Row {
-    search: Search,
-    paths: &'static [&'static str],
-    answer: Result<Outcome, Refused>,
-    looks: u128,
-}
+/// A search, the paths that its sink takes before it refuses one, the length of the shortest, and the looks at positions.
+type Row = (
+    Search,
+    &'static [&'static str],
+    Result<Option<u8>, Refused>,
+    u128,
+);
 
-impl Row {
-    fn check(self, rt: &impl Abort, tables: &Tables) {
-        let mut sink = Comparison::new(self.paths);
-        let (answer, looks) = self.search.run(rt, tables, &mut sink);
-        assert!(rt; sink.took_all(), "{}", self.search.moves);
-        assert!(rt; answer == self.answer, "{}", self.search.moves);
-        assert!(rt; looks == self.looks, "{}", self.search.moves);
-    }
+fn check_row(rt: &impl Abort, tables: &Tables, row: &Row) {
+    let (search, paths, length, wanted_looks) = *row;
+    let solutions = paths.len() as u128;
+    let wanted = length.map(|length| Outcome { length, solutions });
+    let mut sink = Comparison::new(paths);
+    let (answer, looks) = search.run(rt, tables, &mut sink);
+    assert!(rt; sink.took_all(), "{}", search.moves);
+    assert!(rt; answer == wanted, "{}", search.moves);
+    assert!(rt; looks == wanted_looks, "{}", search.moves);
 }
 
 /// Moves, and how far the solved cube is from the goal after them.
@@ -167,48 +167,29 @@ pub const ORIENTED_AFTER_F: &[&str] = &[
 /// one at the root and 13 to F, 13 more to F B and 2 to F B'; 2 to F', 13 to F' B and 2 to F' B'. Without a refusal 27 follow
 /// below B and B'. Those of `A_TURN_MORE`: 20 in the two deepenings before it; in the third the one at the root, 13 to F, and
 /// the one to F U. Without a refusal the third has 76.
+const ROWS: &[Row] = &[
+    (TWO_TURNS, &[], Err(Refused), 29),
+    (TWO_TURNS, &["F B"], Err(Refused), 31),
+    (TWO_TURNS, &["F B", "F B'"], Err(Refused), 46),
+    (TWO_TURNS, &["F B", "F B'", "F' B"], Err(Refused), 48),
+    (
+        TWO_TURNS,
+        &["F B", "F B'", "F' B", "F' B'"],
+        Ok(Some(2)),
+        75,
+    ),
+    (A_TURN_MORE, &["F", "F'"], Err(Refused), 35),
+    (A_TURN_MORE, ORIENTED_AFTER_F, Ok(Some(1)), 96),
+    (TOO_FEW_TURNS, &[], Ok(None), 4),
+];
+
 #[test]
 fn paths_are_taken_or_refused(rt: HostRuntime) {
     let tables = tables_of(&rt, rt.alloc(), Step::Eofb, &mut Meter::new());
-    for row in &[
-        refused(TWO_TURNS, &[], 29),
-        refused(TWO_TURNS, &["F B"], 31),
-        refused(TWO_TURNS, &["F B", "F B'"], 46),
-        refused(TWO_TURNS, &["F B", "F B'", "F' B"], 48),
-        found(TWO_TURNS, &["F B", "F B'", "F' B", "F' B'"], Some(2), 75),
-        refused(A_TURN_MORE, &["F", "F'"], 35),
-        found(A_TURN_MORE, ORIENTED_AFTER_F, Some(1), 96),
-        found(TOO_FEW_TURNS, &[], None, 4),
-    ] {
-        row.check(&rt, &tables);
+    for row in ROWS {
+        check_row(&rt, &tables, row);
     }
     drop(tables);
-}
-
-/// A search whose paths are all taken, with the length of the shortest.
-const fn found(
-    search: Search,
-    paths: &'static [&'static str],
-    length: Option<u8>,
-    looks: u128,
-) -> Row {
-    let solutions = paths.len() as u128;
-    Row {
-        search,
-        paths,
-        answer: Ok(Outcome { length, solutions }),
-        looks,
-    }
-}
-
-/// A search that a refusal ends.
-const fn refused(search: Search, paths: &'static [&'static str], looks: u128) -> Row {
-    Row {
-        search,
-        paths,
-        answer: Err(Refused),
-        looks,
-    }
 }
 
 /// Checks what a search from the cube after F, within so many looks, hands out and returns, and how often it looks.
