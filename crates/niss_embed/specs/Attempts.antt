@@ -116,18 +116,23 @@ abbrev pub stray_or : Doubt → List TextLine → Doubt
 stray_or read [] = read
 stray_or read (line ∷ lines) = if line.doubt == 11 then doubt 11 line.doubt_at else stray_or read lines
 
--- what is told of a reading in doubt: of what is solved before all that a line may be of a scramble, which counts then
-abbrev pub told_after : Outcome → List TextLine → (read : Doubt) → Doubt
-told_after AtFault lines read = read
-told_after Solved lines read = stray_or read lines
-told_after Unsolved lines read = read
+-- of what is solved what counts: before all that a line may be of a scramble, then that another attempt may begin
+abbrev pub or_another : (read another : Doubt) → Doubt
+or_another read another = if (read.reason == 11) || (another.reason == 0) then read else another
 
--- The doubt is that of the reading, or if there is none, one of what is solved or not.
+-- What is solved is in doubt by a line that may be of a scramble, or else since another attempt may begin, or else by its
+-- reading.
+pub record IsDoubtThoughSolved (text : List ℕ) (lines : List TextLine) (scramble places : List ℕ) (read told : Doubt) : Type 0 where
+  pub another : Doubt
+  pub is_another : IsDoubtOfSolved (is_solved scramble places) text lines scramble places another
+  pub told_is : told ≡ or_another (stray_or read lines) another
+
+-- The doubt is that of the reading, or if there is none, one of what isn't solved; of what is solved one that counts, if
+-- there is one.
 abbrev pub IsDoubt : (is_none : Bool) → Outcome → (text : List ℕ) (lines : List TextLine) (scramble places : List ℕ) (read told : Doubt) → Type 0
-IsDoubt false outcome text lines scramble places read told = told ≡ told_after outcome lines read
-IsDoubt true AtFault text lines scramble places read told = told ≡ read
-IsDoubt true Solved text lines scramble places read told =
-    IsDoubtOfSolved (is_solved scramble places) text lines scramble places told
+IsDoubt is_none AtFault text lines scramble places read told = told ≡ read
+IsDoubt is_none Solved text lines scramble places read told = IsDoubtThoughSolved text lines scramble places read told
+IsDoubt false Unsolved text lines scramble places read told = told ≡ read
 IsDoubt true Unsolved text lines scramble places read told = IsDoubtOfUnsolved (is_solved scramble places) text lines scramble places told
 
 -- What is told of an attempt with these lines and this scramble, of which each byte has its place, and of whose reading

@@ -7,7 +7,7 @@ ghost use Rattle.niss_text.specs.declared.moves.MovesOf.{MovesOf};
 ghost use Rattle.niss_text.specs.declared.moves.MovesOf.TheVariants.{Solution};
 ghost use Rattle.niss_embed.specs.Attempts.{AreWritten, IsChecked, IsDoubt, IsOwn, doubt, is_solved, no_doubt, no_place};
 ghost use Rattle.niss_embed.specs.Attempts.{first_doubt, fault_place, outcome_of, counts, doubt_of_part, told_from, IsBegunAgain, IsDoubtOfSteps};
-ghost use Rattle.niss_embed.specs.Attempts.{IsDoubtOfSolved, IsDoubtOfUnsolved, stray_or, told_after};
+ghost use Rattle.niss_embed.specs.Attempts.{IsDoubtOfSolved, IsDoubtOfUnsolved, or_another, stray_or};
 
 use crate::another::lines_before_another;
 use crate::fact_answers::CheckAnswer;
@@ -117,13 +117,14 @@ fn stray_or(read: Doubt, lines: &[TextLine]) -> Doubt
 }
 
 impl Doubt {
-    /// What is told of a reading in doubt once the check ended: before others what counts though all is solved.
-    fn after(self, outcome: Outcome, lines: &[TextLine]) -> Doubt
-        ensures { result ≡ told_after outcome lines.now self }
+    /// That of a reading, or that another attempt may begin: of what is solved what counts.
+    fn or_another(self, another: Doubt) -> Doubt
+        ensures { result ≡ or_another self another }
     {
-        match outcome {
-            Outcome::Solved => stray_or(self, lines),
-            Outcome::AtFault | Outcome::Unsolved => self,
+        if self.reason == STEP_OR_SCRAMBLE || another.reason == 0 {
+            self
+        } else {
+            another
         }
     }
 
@@ -317,7 +318,7 @@ impl Given<'_> {
         doubt_of_steps(text, lines, self.scramble, out, places)
     }
 
-    /// What makes one doubt the attempt, by how its check ended, if its reading says nothing.
+    /// What makes one doubt the attempt, by its reading and how its check ended.
     fn doubt_of(
         &self,
         text: &[u8],
@@ -329,12 +330,13 @@ impl Given<'_> {
         ensures is { IfSome result (λ told. IsDoubt (self.now.doubt.reason == 0) outcome text.now lines.now self.now.scramble.now self.now.places.now self.now.doubt told) }
         ensures room { most_bytes lines.now ≤ length out.old → most_bytes lines.now ≤ length places.old → IsSome result }
     {
-        if self.doubt.reason != 0 {
-            return Some(self.doubt.after(outcome, lines));
-        }
         match outcome {
             Outcome::AtFault => Some(self.doubt),
-            Outcome::Solved => self.doubt_of_solved(text, lines, out, places),
+            Outcome::Solved => {
+                let another = self.doubt_of_solved(text, lines, out, places)?;
+                Some(stray_or(self.doubt, lines).or_another(another))
+            }
+            Outcome::Unsolved if self.doubt.reason != 0 => Some(self.doubt),
             Outcome::Unsolved => self.doubt_of_unsolved(text, lines, out, places),
         }
     }
