@@ -50,7 +50,7 @@ DOUBTS = (
     (
         "R U F\n\nEO: D\n\nDR: L\n\nD L B",
         "R U F",
-        "of several solutions none is said to be the one that counts",
+        "which solution counts, or the order of its steps, can't be told",
         "D",
         11,
     ),

@@ -136,7 +136,7 @@ def filters_reductions(tally: Tally, browser: Browser, count: int) -> None:
     browser.wait_best()
     tally.equal("before an orientation they are", browser.script(SHOWN_FILTERS), True)
     browser.script("history.back()")
-    browser.until("return document.getElementById('best-table').classList.contains('of-reductions')")
+    browser.until("return document.getElementById('best-rows').classList.contains('of-reductions')")
     browser.walk(tally, "the filter of another cube is gone", ("wait_best", {"best-note": f"{count} rows."}))
 
 

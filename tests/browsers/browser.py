@@ -25,7 +25,7 @@ HEARD = """const at = window.announced.findIndex((each) => each.includes(argumen
 PROCESSORS = "Object.defineProperty(Navigator.prototype, 'hardwareConcurrency', { configurable: true, get: () => %d });"
 IDLE = """
     return document.querySelector("#results[aria-busy=false]") !== null
-        && document.querySelector("[aria-busy=true]:not([hidden], #best, #best-body)") === null"""
+        && document.querySelector("[aria-busy=true]:not(#best, #best-body)") === null"""
 # the best are looked for by themselves, and most of the page doesn't wait for them
 BEST = "return document.querySelector('#best[aria-busy=true], #best-body[aria-busy=true]') === null"
 # what the page asks of the engine by a call comes once it is let go on

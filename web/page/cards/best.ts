@@ -105,7 +105,7 @@ export class BestContinuations {
   expect(reached: string[], isBare: boolean) {
     part("best").hidden = isBare || isReduced(reached);
     document.body.classList.toggle("reduced", !isBare && isReduced(reached));
-    part("best-table").classList.toggle("of-reductions", reached.length > 0);
+    this.#room.classList.toggle("of-reductions", reached.length > 0);
   }
 
   end() {

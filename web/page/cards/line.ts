@@ -96,12 +96,15 @@ export class LineSoFar {
   }
 
   turnTo(side: Side) {
+    if (side === this.#side) return;
     this.#side = side;
     part("side").textContent = `${side} side`;
     part("switch").textContent = `Switch to the ${otherSide(side)} side`;
   }
 
   markKept(isKept: boolean) {
+    // a text that is put in again is laid out again
+    if (part("keep-line").ariaPressed === String(isKept)) return;
     part("keep-line").textContent = isKept ? "★ Kept" : "☆ Keep";
     part("keep-line").setAttribute("aria-pressed", String(isKept));
   }

@@ -1,5 +1,6 @@
 // Draws a cube as a net, as SVG: its stickers, with a ring and a dot, or in grey, if pieces are marked.
 import { NET, type NetPlace } from "../../module/shared/stickers.js";
+import { present } from "../shared/certain.js";
 import { inner } from "../shared/element.js";
 
 const SVG = "http://www.w3.org/2000/svg";
@@ -18,7 +19,9 @@ function emptySticker() {
   // the label of the net has all letters, by faces
   const group = shape("g", { class: "sticker", "aria-hidden": "true" });
   group.append(shape("rect", { x: 0.6, y: 0.6, width: PITCH - 1.2, height: PITCH - 1.2, rx: 1.4 }));
-  group.append(shape("text", { x: PITCH / 2, y: PITCH / 2 + 2, "text-anchor": "middle" }));
+  const letter = shape("text", { x: PITCH / 2, y: PITCH / 2 + 2, "text-anchor": "middle" });
+  letter.append("");
+  group.append(letter);
   group.append(shape("circle", { class: "dot", cx: PITCH - 2.4, cy: 2.4, r: 1.3 }));
   return group;
 }
@@ -55,10 +58,14 @@ export function showCube(net: SVGElement, letters: string, title: string, marked
   net.setAttribute("aria-label", `${title}; ${inWords(letters)}`);
   net.classList.toggle("marked", marked !== null);
   net.querySelectorAll(".sticker").forEach((sticker, at) => {
-    sticker.classList.toggle("bad", marked !== null && marked.has(at));
-    // a text that is put in again is laid out again
+    const isBad = marked !== null && marked.has(at);
+    sticker.classList.toggle("bad", isBad);
+    // what stays in grey, or in its colour, has its style already
+    const shown = marked === null || isBad ? letters[at] : "";
+    if (sticker.dataset.shown !== shown) sticker.dataset.shown = shown;
+    // a text that is put in again is laid out again, and another one in its place has to be made
     if (sticker.dataset.colour === letters[at]) return;
     sticker.dataset.colour = letters[at];
-    inner(sticker, "text").textContent = letters[at];
+    present(inner(sticker, "text").firstChild).nodeValue = letters[at];
   });
 }

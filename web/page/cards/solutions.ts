@@ -7,7 +7,7 @@ import { addRows, roveWithin, showRows, starButton, takeButton, takeNamed, type 
 import { axisName, partOf, reductionsAfter, stateOf, stepNamed, titleOf, type Part } from "../shared/offered-steps.js";
 import { signsOfCases, triggerOf } from "../shared/passage.js";
 import { sidesOfTwins, wordsOfTwins, type Entry } from "../shared/twins.js";
-import type { Calls } from "../shared/questions.js";
+import { comesSoon, type Calls } from "../shared/questions.js";
 import type { Rows } from "../answers/list-rows.js";
 import type { List } from "../state/address.js";
 
@@ -43,7 +43,11 @@ function nameOfGroup({ length, total, passed = [] }: Entry) {
 
 const signsOf = ({ moves, passed = [] }: Entry) => Math.ceil(moves.length + signsOfCases(passed));
 
-type ListActs = StarActs & { take: (parts: Part[], key: string) => void; change: (to: Partial<List> | null) => void };
+/** `opened`: once another list is shown, or none. */
+type ListActs = StarActs & {
+  take: (parts: Part[], key: string) => void; change: (to: Partial<List> | null) => void;
+  opened: (list: List | null) => void;
+};
 
 export class SolutionList {
   #name = "";
@@ -78,12 +82,17 @@ export class SolutionList {
     if (name === this.#name) return false;
     this.#name = name;
     this.calls.stop();
-    // the engine searches while the card is drawn; what is wrong is said where it is waited for
-    const asked = list && line && this.calls.ask("rowsOfList", { list, scramble: line.scramble, parts: line.parts });
-    asked?.catch(() => {});
-    this.#open(list);
-    if (!asked) return false;
+    setBusy("solutions", list !== null, LOOKING);
+    if (!list || !line) {
+      this.#open(list);
+      return false;
+    }
+    const asked = this.calls.ask("rowsOfList", { list, scramble: line.scramble, parts: line.parts });
     const isStill = () => name === this.#name;
+    // another list is shown together with its rows, if these come soon
+    if (!this.#hasListOf(list)) await comesSoon(asked);
+    if (!isStill()) return false;
+    this.#open(list);
     try {
       const rows = await asked;
       if (isStill()) this.#take(rows);
@@ -97,10 +106,11 @@ export class SolutionList {
     return isStill();
   }
 
+  #hasListOf = (list: List | null) => list?.step === this.#list?.step && list?.side === this.#list?.side;
+
   #open(list: List | null) {
-    const isSame = list?.step === this.#list?.step && list?.side === this.#list?.side;
     // the filters stay for the same list with other rows, and what is typed while it is looked for stays too
-    if (!isSame) this.#filters.clear();
+    if (!this.#hasListOf(list)) this.#filters.clear();
     this.#filters.show();
     this.#list = list;
     this.#rows = null;
@@ -111,7 +121,7 @@ export class SolutionList {
     part("solutions").hidden = list === null;
     // the best reductions are among those of the list
     part("choices").classList.toggle("lists-reductions", list !== null && stepNamed(list.step).needs !== null);
-    setBusy("solutions", list !== null, LOOKING);
+    this.acts.opened(list);
     if (list === null) return;
     const { step, side, slack, isAll } = list;
     part("solutions-heading").textContent = nameOfList(list);

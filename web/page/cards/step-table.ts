@@ -3,7 +3,7 @@ import { counted, element, grouped, part, tell, withData } from "../shared/eleme
 import {
   SIDES, isReduced, nameOfSide, stateOf, statesOf, titleOf, type OfferedStep, type Part, type Side, type Step,
 } from "../shared/offered-steps.js";
-import type { Calls } from "../shared/questions.js";
+import { comesSoon, type Calls } from "../shared/questions.js";
 import type { Counted, Examined, Offer, Unexamined } from "../answers/examine.js";
 import type { Facts } from "../../module/shared/facts.js";
 import type { List } from "../state/address.js";
@@ -22,11 +22,8 @@ function wordsOfRow({ length, total, solutions, best }: Counted, made: number): 
 export const caseOfStep = ({ badEdges, case: cases }: Facts, { axis, needs }: OfferedStep) =>
   (needs === null ? counted(badEdges[axis].length, "bad edge") : cases[axis]);
 
-/** How long the page waits for all offers, to show them together with the cube. */
-const SOON = 50;
-
 /** The cube, and the steps that may follow, each with its counts on both sides: by one question, so that none waits for
- * the page. They are waited for a moment, since what is shown by itself is laid out and painted by itself. */
+ * the page. All are shown together if they come soon. */
 export async function cubeWithOffers(
   calls: Calls, typed: { text: string; parts: Part[] },
 ): Promise<{ cube: Examined | Unexamined; offers: Promise<Offer[]>; isWhole: boolean }> {
@@ -35,9 +32,7 @@ export async function cubeWithOffers(
     offers = calls.ask("examine", typed, settle);
     offers.catch(refuse);
   });
-  // what is wrong is said where it is waited for
-  const whole = offers.then(() => true, () => true);
-  const isWhole = await Promise.race([whole, new Promise<false>((late) => setTimeout(late, SOON, false))]);
+  const isWhole = await comesSoon(offers);
   return { cube: await cube, offers, isWhole };
 }
 
@@ -128,10 +123,13 @@ export class StepTable {
     }
   }
 
-  /** Puts the focus on the first of the shortest steps that are left; of one over both sides on that of its sides. */
+  /** The first of the shortest steps that are left, of one over both sides that of its sides; else the heading. */
+  get first(): HTMLElement {
+    return this.#body.querySelector(".cell.least, tr:has(.chip.least) .cell") ?? part("steps-heading");
+  }
+
   focus() {
-    const least = this.#body.querySelector<HTMLElement>(".cell.least, tr:has(.chip.least) .cell");
-    (least ?? part("steps-heading")).focus({ preventScroll: true });
+    this.first.focus({ preventScroll: true });
   }
 
   /** Presses a cell, if there is one that isn't dimmed. @param at its place among the cells */

@@ -42,6 +42,14 @@ export function workersOf(script: string): () => Promise<Worker> {
   };
 }
 
+/** How long the page waits for answers, to show them together with what they were asked for. */
+const SOON = 50;
+
+/** Waits a moment, since what is shown by itself is laid out and painted by itself. @returns whether an answer came */
+export const comesSoon = (asked: Promise<unknown>): Promise<boolean> => Promise.race([
+  asked.then(() => true, () => false), new Promise<false>((late) => setTimeout(late, SOON, false)),
+]);
+
 type Followed = ((progress: unknown) => void) | undefined;
 
 /** An engine in a worker of its own, which the first question starts. */

@@ -16,7 +16,7 @@ export function showBeginning(state: State) {
   part("kept").hidden = isShown && state.kept.length === 0;
 }
 
-export const waitsForAnswers = () => document.querySelector('[aria-busy="true"]:not([hidden])') !== null;
+export const waitsForAnswers = () => document.querySelector('[aria-busy="true"]') !== null;
 
 /** Hides what an address shows until it is known, so that nothing is seen to move. @param state null if it is there */
 export function awaitAnswer(state: State | null) {

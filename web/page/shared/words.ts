@@ -111,7 +111,7 @@ type Turns = { turns: string; undoing: string };
 /** What is said of a doubt that a text is read as it was meant, and of the word there, with the turns named by it. */
 const WORDS_OF_DOUBTS: Record<string, (word: string, named: Turns | null) => string> = {
   "another scramble": () => "this may be more than a scramble, or none",
-  "several solutions": () => "of several solutions none is said to be the one that counts",
+  "several solutions": () => "which solution counts, or the order of its steps, can't be told",
   side: (word, named) => {
     if (!/^pre-?mov/i.test(word)) return `“${word}” names a side, and its moves may belong on the other one`;
     const how = named?.turns
