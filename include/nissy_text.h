@@ -42,21 +42,26 @@ enum nissy_line_kind {
 /* What makes one doubt that a line is read as it was meant. */
 enum nissy_doubt {
     NISSY_NO_DOUBT = 0,
-    NISSY_ANOTHER_SCRAMBLE = 1,  /* moves stand before or after all of a scramble, or it has no steps and others of the text begin and end with
-                                  * R' U' F; of a check: by itself it is solved, or another one stands beside a known scramble's solution */
-    NISSY_SEVERAL_SOLUTIONS = 2, /* which of several groups is the solution can't be seen, or a list has those of several scrambles */
+    NISSY_ANOTHER_SCRAMBLE = 1,  /* moves stand before or after all of a scramble; or it is called a step, such as DR; or it has no steps, and others
+                                  * of the text begin and end with R' U' F, or it stands again below; of a check: by itself it is solved, or another
+                                  * one stands beside a known scramble's solution */
+    NISSY_SEVERAL_SOLUTIONS = 2, /* which of several groups is the solution can't be seen, or a list has those of several scrambles; or a step stands
+                                  * below one that follows it, by their numbers or names */
     NISSY_SIDE = 3,              /* another side than the normal one is named, such as the inverse, and the moves have no brackets */
     NISSY_LETTERS = 4,           /* letters stand together as moves don't elsewhere in the line, such as F2L or xD */
     NISSY_SMALL_LETTERS = 5,     /* a scramble has a turn in a small letter, or a step has no others */
-    NISSY_COMMENT = 6,           /* three moves stand one after another in a comment of a step, or a letter before one, as in "R U layer" */
+    NISSY_COMMENT = 6,           /* three moves stand one after another in a comment, or turns of the cube by themselves; or a letter may be of
+                                  * words, as in "R U layer" or "EO F" */
     NISSY_REPETITION = 7,        /* moves are said to be made several times, as in "(R U)x2", at the end of a step "R U x2", or in a comment */
     NISSY_INSERTION = 8,         /* a step has a mark at which others belong, such as "[1]" between moves or "*" after them, or tells what belongs
-                                  * there, as "* = R U"; or it is said that moves are inserted */
+                                  * there, as "* = R U"; or it is said that moves are inserted, or that others are
+                                  * meant, which counts in each note after the scramble */
     /* 9, 10 and 13 are told of checks */
     NISSY_STEP_OR_SCRAMBLE = 11, /* a line after the scramble may be of it, or of another one. Of a check this counts also if it is solved */
     NISSY_SIGNS = 12             /* moves may be written by signs that aren't read so: by commas between some of them, by letters that look like
                                   * theirs, such as wide ones, or in a link; or so many have no apostrophe that these may have been lost, or one of
-                                  * so many is a slice, whose letter F or B was taken for */
+                                  * so many is a slice, whose letter F or B was taken for; or R' U' F stands at one end of a scramble, or a tab
+                                  * between some moves */
 };
 
 /* A line of such a text. The places are in bytes of the text, from 0, and don't fall from one to the next, nor from line to line. Its moves
@@ -202,10 +207,10 @@ typedef struct nissy_attempt_check {
     uint64_t end_line;        /* which is the first after them */
     uint64_t fault_at;        /* after NISSY_FAULT where it stands in the text; NISSY_NO_PLACE of a known scramble, or if nothing is at fault */
     uint64_t doubt_at;        /* where the doubt is seen; NISSY_NO_PLACE if there is none */
-    uint8_t doubt;            /* that of its first line that has one, but of what is solved NISSY_STEP_OR_SCRAMBLE before others; else NISSY_A_PART,
-                               * NISSY_ANOTHER_ATTEMPT or none. With known scrambles, before these, NISSY_WHICH_SCRAMBLE of what has none or, as told
-                               * below, NISSY_ANOTHER_SCRAMBLE; and after these NISSY_WHICH_SCRAMBLE, if its solution doesn't solve its own one, but
-                               * another of the first 64 */
+    uint8_t doubt;            /* of what is solved NISSY_STEP_OR_SCRAMBLE, or else NISSY_ANOTHER_ATTEMPT; if it is neither, that of its first line
+                               * that has one; else NISSY_A_PART of what isn't solved, or none. With known scrambles, before these,
+                               * NISSY_WHICH_SCRAMBLE of what has none or, as told below, NISSY_ANOTHER_SCRAMBLE; and after these
+                               * NISSY_WHICH_SCRAMBLE, if its solution doesn't solve its own one, but another of the first 64 */
     uint8_t doubted;          /* the doubt counts: nothing is at fault, and there is no solution that solves, or it is
                                * NISSY_STEP_OR_SCRAMBLE or NISSY_ANOTHER_ATTEMPT */
     uint8_t checked;          /* it has a solution, and it can be seen of which scramble: then `check` says more than a fault */

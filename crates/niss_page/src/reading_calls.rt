@@ -1,9 +1,10 @@
 //! The calls that read text as solvers write it.
-ghost use Rattle.std.specs.Prelude.{◌≡◌, ◌≤◌, ◌<◌, ◌*◌, ◌⊎◌, length, take, drop};
+ghost use Rattle.std.specs.Prelude.{◌≡◌, ◌≤◌, ◌<◌, ◌*◌, ◌⊎◌, ℕ, length, take, drop};
 ghost use Rattle.niss_text.specs.Plain.{IsPlain};
-ghost use Rattle.niss_text.specs.Lines.{Covers, Counts, Takes, AreNumbered, Begins, BeginNumbered};
+ghost use Rattle.niss_text.specs.Lines.{Covers, Counts, Takes, TellsPlain, AreNumbered, Begins, BeginNumbered};
+ghost use Rattle.niss_text.specs.Groups.{AreGrouped};
 ghost use Rattle.niss_text.specs.Moves.{WritesMoves};
-ghost use Rattle.niss_text.specs.Known.{AreKnown, AreApart, AreOf, HaveLines, HaveNames};
+ghost use Rattle.niss_text.specs.Known.{AreKnown, AreApart, AreOf, HaveLines, HaveNames, PartsTake};
 
 use niss_text::{
     KnownAnswer, KnownPart, MovesPart, PlainAnswer, TextAnswer, TextLine, known_lines, plain_line,
@@ -31,6 +32,7 @@ pub extern "C" fn nissy_text_lines(text: &[u8], lines: &mut [TextLine]) -> TextA
     ensures numbers { result.lines ≤ length lines.old → AreNumbered 0 (take result.lines lines.new) result.attempts }
     ensures begins { Begins text.now (take result.lines lines.new) }
     ensures in_order { BeginNumbered (take result.lines lines.new) }
+    ensures groups { AreGrouped (take result.lines lines.new) }
     ensures few { result.lines ≤ length text.now }
     ensures done { result.lines ≤ length lines.old → result.status ≡ 0 }
     ensures room { length lines.old < result.lines → result.status ≡ 4 }
@@ -67,10 +69,13 @@ pub extern "C" fn nissy_known_lines(
     ensures few { (result.lines ≤ length text.now) × (result.parts ≤ length text.now) }
     ensures fits { result.status ≡ 0 → (result.lines ≤ length lines.old) × (result.parts ≤ length parts.old) }
     ensures room { length text.now ≤ length lines.old → length text.now ≤ length parts.old → result.status ≡ 0 }
+    ensures enough { (count : ℕ) → Counts text.now 0 count (length text.now) → count ≤ length lines.old → count ≤ length parts.old → result.status ≡ 0 }
     ensures told { (result.status ≡ 0) ⊎ (result.status ≡ 4) }
     ensures counts { result.status ≡ 4 → Counts text.now 0 result.lines (length text.now) }
     ensures none { result.status ≡ 4 → length lines.old < result.lines → result.parts ≡ 0 }
     ensures takes { result.status ≡ 0 → Takes text.now 0 (take result.lines lines.new) (length text.now) }
+    ensures plain { result.status ≡ 0 → TellsPlain text.now (take result.lines lines.new) }
+    ensures parts { result.status ≡ 0 → PartsTake text.now lines.new 0 (take result.parts parts.new) (length text.now) }
     ensures known { result.status ≡ 0 → AreKnown (length counts.old) (take result.parts parts.new) }
     ensures apart { result.status ≡ 0 → AreApart (take result.parts parts.new) }
     ensures names { result.status ≡ 0 → HaveNames text.now (take result.parts parts.new) }

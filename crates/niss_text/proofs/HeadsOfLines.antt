@@ -1,9 +1,8 @@
 -- The heads of lines, and the names of parts that these are.
-use Rattle.std.proofs.Common.{◌≡◌, ℕ, ◌+◌, ◌-◌, ◌<◌, ◌≤◌, ◌⊎◌, inl, inr, ◌==◌, Bool, true, false, if◌then◌else◌, Option, Some, MatchOption, List, [], ◌∷◌, length, take, drop, set, get_or, slice_range, refl, sym, subst, ap, ◌∙◌, arith}
+use Rattle.std.proofs.Common.{◌≡◌, ℕ, ◌+◌, ◌<◌, ◌≤◌, ◌==◌, Bool, true, false, if◌then◌else◌, Option, Some, MatchOption, List, [], ◌∷◌, length, take, set, get_or, slice_range, refl, sym, subst, arith}
 use Rattle.std.specs.List.{All}
-use Rattle.std.proofs.lemmas.Bool.{cases_lt}
-use Rattle.std.proofs.lemmas.List.{get_or-take, get_or-drop, length-take-le, drop-take, take_more_set}
-use Rattle.std.proofs.lemmas.List.Elements.{All-nil, All-cons, All-head, All-tail, All-get_or, All-from_get_or, All-drop, All-push}
+use Rattle.std.proofs.lemmas.List.{take_more_set}
+use Rattle.std.proofs.lemmas.List.Elements.{All-nil, All-cons, All-head, All-tail, All-get_or, All-from_get_or, All-push}
 use Rattle.niss_text.specs.Kept.{HasOnlyWords, words_of_head}
 use Rattle.niss_text.specs.Lines.{IsLine, IsTold, end_size}
 use Rattle.niss_text.specs.Known.{IsName, IsNamed, HaveHeads, HaveNames, AreNamedAs}
@@ -11,7 +10,8 @@ use Rattle.niss_text.specs.declared.known.KnownPart.{KnownPart}
 use Rattle.niss_text.specs.declared.parts.Part.{Part}
 use Rattle.niss_text.specs.declared.text_line.TextLine.{TextLine}
 use Rattle.niss_text.proofs.KeptLemmas.{only_none}
-unfoldable use Rattle.niss_text.specs.Lines.{Covers, Takes}
+use Rattle.niss_text.proofs.PassedLemmas.{covers_order}
+unfoldable use Rattle.niss_text.specs.Lines.{Covers}
 unfoldable use Rattle.niss_text.specs.Known.{first_headed}
 
 told_name : (text : List ℕ) (line : TextLine) → IsLine line.begin line → IsTold text line → line.end ≤ length text → IsName text line.begin line.head_end
@@ -21,51 +21,17 @@ told_name text line is told within = record {
   words = told.kept.head;
 }
 
-takes_ends : (text : List ℕ) (from : ℕ) (lines : List TextLine) (to : ℕ) → Takes text from lines to → from ≤ to
-unfolding Takes
-takes_ends text from [] to far = far
-takes_ends text from (l ∷ ls) to far =
-    let is : IsLine l.begin l = far.1.0 in
-    omega (arith, far.0, is.head, is.label, is.words, is.title, is.moves, is.comment, takes_ends text (l.end + end_size text l.end) ls to far.1.1.1.4)
-
-pub takes_heads : (text : List ℕ) (from : ℕ) (lines : List TextLine) (to : ℕ) → Takes text from lines to → to ≤ length text → HaveHeads text lines
-unfolding Takes
-takes_heads text from [] to far within = All-nil (λ (l : TextLine). IsName text l.begin l.head_end)
-takes_heads text from (l ∷ ls) to far within =
+pub covers_heads : (text : List ℕ) (from : ℕ) (lines : List TextLine) (to : ℕ) → Covers text from lines to → to ≤ length text → HaveHeads text lines
+unfolding Covers
+covers_heads text from [] to far within = All-nil (λ (l : TextLine). IsName text l.begin l.head_end)
+covers_heads text from (l ∷ ls) to far within =
     All-cons (λ (l : TextLine). IsName text l.begin l.head_end) l ls
-    (told_name text l far.1.0 far.1.1.0 (omega (arith, takes_ends text (l.end + end_size text l.end) ls to far.1.1.1.4, within)))
-    (takes_heads text (l.end + end_size text l.end) ls to far.1.1.1.4 within)
-
--- lines that are written over the first ones of others
-pub heads_over : (text : List ℕ) (old new : List TextLine) (n to count : ℕ) (none : TextLine) → Takes text 0 (take n new) to → to ≤ length text → n ≤ length new →
-    drop n new ≡ drop n old → length new ≡ length old → count ≤ length old → HaveHeads text (take count old) → HaveHeads text (take count new)
-heads_over text old new n to count none takes within fits behind same low far =
-    All-from_get_or (λ (l : TextLine). IsName text l.begin l.head_end) (take count new) none by_line
+    (told_name text l (subst (λ n. IsLine n l) (sym is.begins) is) far.1.0
+    (omega (arith, covers_order text (l.end + end_size text l.end) ls to far.1.1.4, within)))
+    (covers_heads text (l.end + end_size text l.end) ls to far.1.1.4 within)
   where
-    by_place : (k : ℕ) → k < count → (k < n) ⊎ (n ≤ k) → IsName text (get_or new k none).begin (get_or new k none).head_end
-    by_place k lt (inl less) = subst (λ (l : TextLine). IsName text l.begin l.head_end) (get_or-take n new k none less)
-        (All-get_or (λ (l : TextLine). IsName text l.begin l.head_end) (take n new) k none (omega (arith, less, length-take-le n new fits)) (takes_heads text 0 (take n new) to takes within))
-    by_place k lt (inr more) =
-        let split : n + (k - n) ≡ k = omega (arith, more) in
-        let here : get_or new k none ≡ get_or old k none =
-        ap (λ j. get_or new j none) (sym split) ∙ sym (get_or-drop n new (k - n) none) ∙ ap (λ v. get_or v (k - n) none) behind
-        ∙ get_or-drop n old (k - n) none ∙ ap (λ j. get_or old j none) split in
-        subst (λ (l : TextLine). IsName text l.begin l.head_end) (sym here ∙ refl)
-        (subst (λ (l : TextLine). IsName text l.begin l.head_end) (get_or-take count old k none lt)
-        (All-get_or (λ (l : TextLine). IsName text l.begin l.head_end) (take count old) k none (omega (arith, lt, low, length-take-le count old low)) far))
-
-    by_line : (k : ℕ) → k < length (take count new) → IsName text (get_or (take count new) k none).begin (get_or (take count new) k none).head_end
-    by_line k lt =
-        let less : k < count = omega (arith, lt, length-take-le count new (omega (arith, low, same))) in
-        subst (λ (l : TextLine). IsName text l.begin l.head_end) (sym (get_or-take count new k none less)) (by_place k less (cases_lt k n))
-
--- some of the lines
-pub heads_among : (text : List ℕ) (lines : List TextLine) (from to : ℕ) → from ≤ to → HaveHeads text (take to lines) → HaveHeads text (slice_range lines from to)
-heads_among text lines from to order far =
-    let split : from + (to - from) ≡ to = omega (arith, order) in
-    subst (λ (ls : List TextLine). HaveHeads text ls)
-    (ap (λ n. drop from (take n lines)) (sym split) ∙ drop-take from (to - from) lines)
-    (All-drop (λ (l : TextLine). IsName text l.begin l.head_end) from (take to lines) far)
+    is : IsLine from l
+    is = far.0
 
 -- the name of a part of lines
 pub name_of_lines : (text : List ℕ) (lines : List TextLine) (part : Part) → HaveHeads text lines → IsNamed lines part → IsName text part.name_begin part.name_end

@@ -2,6 +2,11 @@ pub mod SignLemmas
 pub mod PlainLemmas
 pub mod LabelLemmas
 pub mod LineLemmas
+pub mod PassedLemmas
+pub mod TakesLemmas
+pub mod PartLemmas
+pub mod TellLemmas
+pub mod VanishLemmas
 pub mod KeptLemmas
 pub mod WordLemmas
 pub mod ToldLemmas
@@ -14,3 +19,8 @@ pub mod CommentLemmas
 pub mod SpacingLemmas
 pub mod TurnLemmas
 pub mod HeadsOfLines
+pub mod SaidLemmas
+pub mod GroupLemmas
+pub mod FrontLemmas
+pub mod ListedWords
+pub mod GroupedLines

@@ -1,11 +1,11 @@
 -- One more line of a text.
 use Rattle.std.proofs.Common.{◌≡◌, ℕ, zero, suc, ◌+◌, ◌-◌, ◌<◌, ◌≤◌, ◌⊎◌, inl, inr, List, [], ◌∷◌, ◌++◌, length, take, drop, set, get_or, zero-add, refl, sym, subst, ap, ◌∙◌, arith}
 use Rattle.std.proofs.lemmas.Bool.{cases_lt}
-use Rattle.std.proofs.lemmas.List.{take_more_set, take_all, set_past, drop-set-lt, drop-drop, get_or-drop, length-drop}
+use Rattle.std.proofs.lemmas.List.{take_more_set, take-take, take_all, set_past, drop-set-lt, drop-drop, get_or-drop, length-drop}
 use Rattle.niss_text.specs.declared.text_line.TextLine.{TextLine}
 use Rattle.niss_text.specs.Signs.{ends_line}
 use Rattle.niss_text.specs.Lines.{IsLine, IsTold, IsUnbroken, IsEnd, end_of, end_size}
-unfoldable use Rattle.niss_text.specs.Lines.{Covers, Counts, Takes, AreNumbered}
+unfoldable use Rattle.niss_text.specs.Lines.{Covers, Counts, AreNumbered}
 
 pub covers_none : (text : List ℕ) (at : ℕ) → Covers text at [] at
 unfolding Covers
@@ -20,8 +20,23 @@ covers_more text from [] to line size same is told end whole ended =
 covers_more text from (l ∷ ls) to line size far is told end whole ended =
     (far.0, (far.1.0, (far.1.1.0, far.1.1.1, far.1.1.2, far.1.1.3, covers_more text (l.end + end_size text l.end) ls to line size far.1.1.4 is told end whole ended)))
 
+-- all lines of a text
+pub all_covered : (text : List ℕ) (lines new : List TextLine) (first at n end : ℕ) → first ≡ 0 → at ≡ 0 →
+    (Covers text 0 (take first lines) at → Covers text 0 (take n new) end) → end ≡ length text → Covers text 0 (take n new) (length text)
+all_covered text lines new first at n end none begin further ends =
+    subst (λ (m : ℕ). Covers text 0 (take n new) m) ends
+    (further (subst (λ (m : ℕ). Covers text 0 (take m lines) at) (sym none) (subst (λ (m : ℕ). Covers text 0 (take 0 lines) m) (sym begin) (covers_none text 0))))
+
+-- a line in the rest of a text stands in the text
+pub unbroken_at : (text : List ℕ) (now size : ℕ) → IsUnbroken (drop now text) 0 size → IsUnbroken text now size
+unbroken_at text now size unbroken k lt =
+    ap (λ b. ends_line b) (sym (get_or-drop now text k 0)) ∙ ap (λ n. ends_line (get_or (drop now text) n 0)) (sym (zero-add k)) ∙ unbroken k lt
+
+pub ended_at : (text : List ℕ) (now size : ℕ) → IsEnd (drop now text) size → IsEnd text (now + size)
+ended_at text now size ends lt = ap (λ b. ends_line b) (sym (get_or-drop now text size 0)) ∙ ends (omega (arith, lt, length-drop now text))
+
 -- what ends a line in the rest of a text ends it in the text
-end_size_at : (text : List ℕ) (now size : ℕ) → end_size (drop now text) size ≡ end_size text (now + size)
+pub end_size_at : (text : List ℕ) (now size : ℕ) → end_size (drop now text) size ≡ end_size text (now + size)
 end_size_at text now size =
     let first : get_or (drop now text) size 0 ≡ get_or text (now + size) 0 = get_or-drop now text size 0 in
     let second : get_or (drop now text) (size + 1) 0 ≡ get_or text (now + (size + 1)) 0 = get_or-drop now text (size + 1) 0 in
@@ -29,7 +44,7 @@ end_size_at text now size =
     ap (λ a. end_of a (get_or (drop now text) (size + 1) 0)) first
     ∙ ap (λ b. end_of (get_or text (now + size) 0) b) (second ∙ ap (λ n. get_or text n 0) same)
 
-line_ends : (text : List ℕ) (now size whole : ℕ) (line : TextLine) → line.end ≡ now + size → whole ≡ size + end_size (drop now text) size →
+pub line_ends : (text : List ℕ) (now size whole : ℕ) (line : TextLine) → line.end ≡ now + size → whole ≡ size + end_size (drop now text) size →
     line.end + end_size text line.end ≡ now + whole
 line_ends text now size whole line end all =
     ap (λ n. n + end_size text n) end ∙ ap (λ n. now + size + n) (sym (end_size_at text now size)) ∙ sum ∙ ap (λ n. now + n) (sym all)
@@ -43,49 +58,17 @@ pub covers_next : (text : List ℕ) (lines : List TextLine) (count now size whol
     whole ≡ size + end_size (drop now text) size → IsEnd (drop now text) size → Covers text 0 (take (count + 1) (set lines count line)) (now + whole)
 covers_next text lines count now size whole line room far is told end unbroken all ends =
     let there : line.end + end_size text line.end ≡ now + whole = line_ends text now size whole line end all in
-    let broken : IsUnbroken text now size = λ k lt. ap (λ b. ends_line b) (sym (get_or-drop now text k 0)) ∙ ap (λ n. ends_line (get_or (drop now text) n 0)) (sym (zero-add k)) ∙ unbroken k lt in
-    let ended : IsEnd text (now + size) = λ lt. ap (λ b. ends_line b) (sym (get_or-drop now text size 0)) ∙ ends (omega (arith, lt, length-drop now text)) in
+    let broken : IsUnbroken text now size = unbroken_at text now size unbroken in
+    let ended : IsEnd text (now + size) = ended_at text now size ends in
     subst (λ (ls : List TextLine). Covers text 0 ls (now + whole)) (sym (take_more_set lines count line room))
     (subst (λ (n : ℕ). Covers text 0 (take count lines ++ line ∷ []) n) there (covers_more text 0 (take count lines) now line size far is told end broken
     (subst (λ (n : ℕ). IsEnd text n) (sym end) ended)))
-
-takes_more : (text : List ℕ) (from : ℕ) (lines : List TextLine) (to : ℕ) (line : TextLine) (size : ℕ) → Takes text from lines to → IsLine to line → IsTold text line →
-    line.end ≡ to + size → IsUnbroken text to size → IsEnd text line.end → Takes text from (lines ++ line ∷ []) (line.end + end_size text line.end)
-unfolding Takes
-takes_more text from [] to line size far is told end whole ended =
-    subst (λ (at : ℕ). (from ≤ at) × (IsLine at line × (IsTold text line × ((n : ℕ) × (line.end ≡ at + n) × IsUnbroken text at n × IsEnd text line.end
-    × (line.end + end_size text line.end ≤ line.end + end_size text line.end))))) (sym is.begins) (far, (is, (told, (size, end, whole, ended, omega arith))))
-takes_more text from (l ∷ ls) to line size far is told end whole ended =
-    (far.0, (far.1.0, (far.1.1.0, (far.1.1.1.0, far.1.1.1.1, far.1.1.1.2, far.1.1.1.3, takes_more text (l.end + end_size text l.end) ls to line size far.1.1.1.4 is told end whole ended))))
-
--- the same in memory
-pub takes_next : (text : List ℕ) (lines : List TextLine) (count now size whole : ℕ) (line : TextLine) → count < length lines →
-    Takes text 0 (take count lines) now → IsLine now line → IsTold text line → line.end ≡ now + size → IsUnbroken (drop now text) 0 size →
-    whole ≡ size + end_size (drop now text) size → IsEnd (drop now text) size → Takes text 0 (take (count + 1) (set lines count line)) (now + whole)
-takes_next text lines count now size whole line room far is told end unbroken all ends =
-    let there : line.end + end_size text line.end ≡ now + whole = line_ends text now size whole line end all in
-    let broken : IsUnbroken text now size = λ k lt. ap (λ b. ends_line b) (sym (get_or-drop now text k 0)) ∙ ap (λ n. ends_line (get_or (drop now text) n 0)) (sym (zero-add k)) ∙ unbroken k lt in
-    let ended : IsEnd text (now + size) = λ lt. ap (λ b. ends_line b) (sym (get_or-drop now text size 0)) ∙ ends (omega (arith, lt, length-drop now text)) in
-    subst (λ (ls : List TextLine). Takes text 0 ls (now + whole)) (sym (take_more_set lines count line room))
-    (subst (λ (n : ℕ). Takes text 0 (take count lines ++ line ∷ []) n) there (takes_more text 0 (take count lines) now line size far is told end broken
-    (subst (λ (n : ℕ). IsEnd text n) (sym end) ended)))
-
-pub takes_none : (text : List ℕ) → Takes text 0 [] 0
-unfolding Takes
-takes_none text = omega arith
-
--- others follow
-pub takes_further : (text : List ℕ) (from : ℕ) (lines : List TextLine) (to more : ℕ) → Takes text from lines to → to ≤ more → Takes text from lines more
-unfolding Takes
-takes_further text from [] to more far le = omega (arith, far, le)
-takes_further text from (l ∷ ls) to more far le =
-    (far.0, (far.1.0, (far.1.1.0, (far.1.1.1.0, far.1.1.1.1, far.1.1.1.2, far.1.1.1.3, takes_further text (l.end + end_size text l.end) ls to more far.1.1.1.4 le))))
 
 pub counts_none : (text : List ℕ) (at : ℕ) → Counts text at 0 at
 unfolding Counts
 counts_none text at = refl
 
-counts_more : (text : List ℕ) (from count to size : ℕ) → Counts text from count to → to < length text → IsUnbroken text to size → IsEnd text (to + size) →
+pub counts_more : (text : List ℕ) (from count to size : ℕ) → Counts text from count to → to < length text → IsUnbroken text to size → IsEnd text (to + size) →
     Counts text from (suc count) (to + size + end_size text (to + size))
 unfolding Counts
 counts_more text from zero to size same some whole ends =
@@ -100,8 +83,8 @@ pub counts_next : (text : List ℕ) (count now size whole : ℕ) → Counts text
 counts_next text count now size whole far some unbroken ends all =
     let there : now + size + end_size text (now + size) ≡ now + whole =
     ap (λ n. now + size + n) (sym (end_size_at text now size)) ∙ sum ∙ ap (λ n. now + n) (sym all) in
-    let broken : IsUnbroken text now size = λ k lt. ap (λ b. ends_line b) (sym (get_or-drop now text k 0)) ∙ ap (λ n. ends_line (get_or (drop now text) n 0)) (sym (zero-add k)) ∙ unbroken k lt in
-    let ended : IsEnd text (now + size) = λ lt. ap (λ b. ends_line b) (sym (get_or-drop now text size 0)) ∙ ends (omega (arith, lt, length-drop now text)) in
+    let broken : IsUnbroken text now size = unbroken_at text now size unbroken in
+    let ended : IsEnd text (now + size) = ended_at text now size ends in
     let one : suc count ≡ count + 1 = omega arith in
     subst (λ (n : ℕ). Counts text 0 n (now + whole)) one
     (subst (λ (n : ℕ). Counts text 0 (suc count) n) there (counts_more text 0 count now size far some broken ended))
@@ -116,6 +99,10 @@ same_behind_line lines first count line far =
 
 pub same_behind_none : (lines first : List TextLine) (count : ℕ) → drop count lines ≡ drop count first → drop (count + 1) lines ≡ drop (count + 1) first
 same_behind_none lines first count far = sym (drop-drop 1 count lines) ∙ ap (λ v. drop 1 v) far ∙ drop-drop 1 count first
+
+-- the first of some that are the same
+pub fewer_kept : {Item : Type 0} (items others : List Item) (n m : ℕ) → n ≤ m → take m items ≡ take m others → take n items ≡ take n others
+fewer_kept items others n m le same = sym (take-take n m items le) ∙ ap (λ v. take n v) same ∙ take-take n m others le
 
 -- what is the same after some lines is so after more of them
 pub more_behind : {Item : Type 0} (lines first : List Item) (count more : ℕ) → count ≤ more → drop count lines ≡ drop count first → drop more lines ≡ drop more first

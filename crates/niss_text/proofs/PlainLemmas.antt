@@ -1,17 +1,18 @@
 -- A text as far as it is read, and one more piece of it.
-use Rattle.std.proofs.Common.{◌≡◌, ℕ, ◌+◌, ◌-◌, ◌<◌, ◌≤◌, false, List, [], ◌∷◌, ◌++◌, length, take, drop, replicate, refl, sym, subst, ap, ◌∙◌, append_assoc, add-zero, arith, length-append}
+use Rattle.std.proofs.Common.{◌≡◌, ℕ, ◌+◌, ◌-◌, ◌<◌, ◌≤◌, Bool, true, false, List, [], ◌∷◌, ◌++◌, length, take, drop, replicate, refl, sym, subst, ap, ◌∙◌, append_assoc, add-zero, arith, length-append}
 use Rattle.std.proofs.Math.Bool.{or_assoc, or_comm}
 use Rattle.std.proofs.lemmas.List.{append-nil, take-append-drop, length-take-le, drop-drop}
 use Rattle.niss_text.specs.declared.piece.Piece.{Piece}
-use Rattle.niss_text.specs.declared.piece.Place.TheVariants.{Among}
+use Rattle.niss_text.specs.declared.piece.Place.{Place}
+use Rattle.niss_text.specs.declared.piece.Place.TheVariants.{Among, Begin}
 use Rattle.niss_text.specs.declared.left_out.LeftOut.{LeftOut}
 use Rattle.niss_text.specs.declared.pen.Beginning.{Beginning}
-use Rattle.niss_text.specs.declared.piece.Piece.TheVariants.{Kept}
-use Rattle.niss_text.specs.Pieces.{Part, part, IsPiece, IsFirst, MayStay, written, is_title}
+use Rattle.niss_text.specs.declared.piece.Piece.TheVariants.{Kept, LineNumber}
+use Rattle.niss_text.specs.Pieces.{Part, part, IsPiece, IsFirst, MayStay, StandsBefore, written, is_begun, is_title}
 use Rattle.niss_text.specs.LeftOut.{left_none, left_of, both, bits_of}
 use Rattle.niss_text.specs.Plain.{IsPlain}
 use Rattle.niss_text.specs.Written.{PutsPart}
-unfoldable use Rattle.niss_text.specs.Pieces.{text_of, line_of, places_of, ArePieces, StayRightly, HasNoTitle}
+unfoldable use Rattle.niss_text.specs.Pieces.{text_of, line_of, places_of, ArePieces, StayRightly, BeginLines, HasNoTitle}
 unfoldable use Rattle.niss_text.specs.LeftOut.{left_of_all}
 
 text_more : (ps : List Part) (p : Part) → text_of (ps ++ p ∷ []) ≡ text_of ps ++ p.bytes
@@ -43,14 +44,29 @@ unfolding ArePieces
 pieces_more [] p all some one = (some, one, tt)
 pieces_more (q ∷ ps) p all some one = (all.0, all.1, pieces_more ps p all.2 some one)
 
-stay_more : (ps : List Part) (p : Part) (rest : List ℕ) → StayRightly ps (p.bytes ++ rest) → (p.kind ≡ Kept → MayStay (p.bytes ++ rest)) →
+stay_more : (ps : List Part) (p : Part) (rest : List ℕ) → StayRightly ps (p.bytes ++ rest) → StandsBefore p rest →
     StayRightly (ps ++ p ∷ []) rest
 unfolding StayRightly text_of
 stay_more [] p rest all one = (one, tt)
 stay_more (q ∷ ps) p rest all one =
     let same : text_of ps ++ (p.bytes ++ rest) ≡ text_of (ps ++ p ∷ []) ++ rest =
     sym (append_assoc (text_of ps) p.bytes rest) ∙ ap (λ v. v ++ rest) (sym (text_more ps p)) in
-    (subst (λ v. q.kind ≡ Kept → MayStay (q.bytes ++ v)) same all.0, stay_more ps p rest all.1 one)
+    (subst (λ v. StandsBefore q v) same all.0, stay_more ps p rest all.1 one)
+
+-- whether one is at the beginning of a line after some pieces
+unfoldable pub begun_after : Bool → List Part → Bool
+begun_after begun [] = begun
+begun_after begun (p ∷ ps) = begun_after (is_begun begun p.kind) ps
+
+begun_more : (begun : Bool) (ps : List Part) (p : Part) → begun_after begun (ps ++ p ∷ []) ≡ is_begun (begun_after begun ps) p.kind
+unfolding begun_after
+begun_more begun [] p = refl
+begun_more begun (q ∷ ps) p = begun_more (is_begun begun q.kind) ps p
+
+lines_more : (begun : Bool) (ps : List Part) (p : Part) → BeginLines begun ps → (p.kind ≡ LineNumber → begun_after begun ps ≡ true) → BeginLines begun (ps ++ p ∷ [])
+unfolding BeginLines begun_after
+lines_more begun [] p all one = (one, tt)
+lines_more begun (q ∷ ps) p all one = (all.0, lines_more (is_begun begun q.kind) ps p all.1 one)
 
 untitled_more : (ps : List Part) (p : Part) → HasNoTitle ps → is_title p.kind ≡ false → HasNoTitle (ps ++ p ∷ [])
 unfolding HasNoTitle
@@ -83,10 +99,12 @@ left_more [] p = both_none (left_of p.kind)
 left_more (q ∷ ps) p = ap (λ v. both (left_of q.kind) v) (left_more ps p) ∙ sym (both_assoc (left_of q.kind) (left_of_all ps) (left_of p.kind))
 
 -- So much of a part of a text is read, and this is left.
-pub record SoFar (part rest : List ℕ) (from : Beginning) (before bytes places_before places : List ℕ) (left : LeftOut) : Type 0 where
+pub record SoFar (part rest : List ℕ) (from : Beginning) (place : Place) (before bytes places_before places : List ℕ) (left : LeftOut) : Type 0 where
   pub parts : List Part
   pub are_pieces : ArePieces parts
   pub stay : StayRightly parts rest
+  pub begin : BeginLines true parts
+  pub begun : place ≡ Begin → begun_after true parts ≡ true
   pub untitled : from.place ≡ Among → HasNoTitle parts
   pub whole : text_of parts ++ rest ≡ part
   pub bytes_are : before ++ line_of parts ≡ bytes
@@ -94,12 +112,14 @@ pub record SoFar (part rest : List ℕ) (from : Beginning) (before bytes places_
   pub left_is : left_of_all parts ≡ left
 
 pub nothing_read : (text : List ℕ) (from : Beginning) (before places_before : List ℕ) (left : LeftOut) → left ≡ left_none →
-    SoFar text text from before before places_before places_before left
-unfolding text_of line_of places_of ArePieces StayRightly HasNoTitle left_of_all
+    SoFar text text from from.place before before places_before places_before left
+unfolding text_of line_of places_of ArePieces StayRightly BeginLines begun_after HasNoTitle left_of_all
 nothing_read text from before places_before left none = record {
   parts = [];
   are_pieces = tt;
   stay = tt;
+  begin = tt;
+  begun = λ is. refl;
   untitled = λ among. tt;
   whole = refl;
   bytes_are = append-nil before;
@@ -107,11 +127,12 @@ nothing_read text from before places_before left none = record {
   left_is = sym none;
 }
 
-pub one_more : (part rest : List ℕ) (from : Beginning) (before bytes places_before places : List ℕ) (left : LeftOut) (kind : Piece) (n at : ℕ) (w : List ℕ) →
-    SoFar part rest from before bytes places_before places left → IsFirst rest kind n → (from.place ≡ Among → is_title kind ≡ false) →
+pub one_more : (part rest : List ℕ) (from : Beginning) (place next : Place) (before bytes places_before places : List ℕ) (left : LeftOut) (kind : Piece) (n at : ℕ) (w : List ℕ) →
+    SoFar part rest from place before bytes places_before places left → IsFirst rest kind n → (from.place ≡ Among → is_title kind ≡ false) →
+    (kind ≡ LineNumber → place ≡ Begin) → (next ≡ Begin → (begun : Bool) → (place ≡ Begin → begun ≡ true) → is_begun begun kind ≡ true) →
     w ≡ written kind (take n rest) → at ≡ from.at + (length part - length rest) →
-    SoFar part (drop n rest) from before (bytes ++ w) places_before (places ++ replicate (length w) at) (both left (left_of kind))
-one_more text rest from before bytes places_before places left kind n at w far first untitled is here =
+    SoFar part (drop n rest) from next before (bytes ++ w) places_before (places ++ replicate (length w) at) (both left (left_of kind))
+one_more text rest from place next before bytes places_before places left kind n at w far first untitled number goes is here =
     let p : Part = part kind (take n rest) in
     let ps : List Part = far.parts in
     let long : at ≡ from.at + length (text_of ps) = omega (arith, here, ap length far.whole, length-append (text_of ps) rest) in
@@ -119,7 +140,9 @@ one_more text rest from before bytes places_before places left kind n at w far f
       parts = ps ++ p ∷ [];
       are_pieces = pieces_more ps p far.are_pieces (omega (arith, length-take-le n rest first.fits, first.some)) first.is;
       stay = stay_more ps p (drop n rest) (subst (λ v. StayRightly ps v) (sym (take-append-drop n rest)) far.stay)
-          (subst (λ v. kind ≡ Kept → MayStay v) (sym (take-append-drop n rest)) first.stays);
+          (record { stays = subst (λ v. kind ≡ Kept → MayStay v) (sym (take-append-drop n rest)) first.stays; ends = first.ends });
+      begin = lines_more true ps p far.begin (λ is. far.begun (number is));
+      begun = λ is. begun_more true ps p ∙ goes is (begun_after true ps) far.begun;
       untitled = λ among. untitled_more ps p (far.untitled among) (untitled among);
       whole = ap (λ v. v ++ drop n rest) (text_more ps p) ∙ append_assoc (text_of ps) (take n rest) (drop n rest)
           ∙ ap (λ v. text_of ps ++ v) (take-append-drop n rest) ∙ far.whole;
@@ -132,12 +155,13 @@ one_more text rest from before bytes places_before places left kind n at w far f
       left_is = left_more ps p ∙ ap (λ v. both v (left_of kind)) far.left_is;
     }
 
-pub all_read : (part : List ℕ) (from : Beginning) (before bytes places_before places : List ℕ) (left : LeftOut) →
-    SoFar part [] from before bytes places_before places left → PutsPart part from before bytes places_before places left
-all_read text from before bytes places_before places left far = record {
+pub all_read : (part : List ℕ) (from : Beginning) (place : Place) (before bytes places_before places : List ℕ) (left : LeftOut) →
+    SoFar part [] from place before bytes places_before places left → PutsPart part from before bytes places_before places left
+all_read text from place before bytes places_before places left far = record {
   parts = far.parts;
   are_pieces = far.are_pieces;
   stay = far.stay;
+  begin = far.begin;
   untitled = far.untitled;
   whole = sym (append-nil (text_of far.parts)) ∙ far.whole;
   bytes_are = far.bytes_are;
@@ -145,12 +169,14 @@ all_read text from before bytes places_before places left far = record {
   left_is = far.left_is;
 }
 
-pub so_far_is : (part : List ℕ) (from : Beginning) (before places_before rest bytes places rest' bytes' places' : List ℕ) (left left' : LeftOut) → rest' ≡ rest → bytes' ≡ bytes →
-    places' ≡ places → left' ≡ left → SoFar part rest from before bytes places_before places left → SoFar part rest' from before bytes' places_before places' left'
-so_far_is text from before places_before rest bytes places rest' bytes' places' left left' r l p g far = record {
+pub so_far_is : (part : List ℕ) (from : Beginning) (place : Place) (before places_before rest bytes places rest' bytes' places' : List ℕ) (left left' : LeftOut) → rest' ≡ rest → bytes' ≡ bytes →
+    places' ≡ places → left' ≡ left → SoFar part rest from place before bytes places_before places left → SoFar part rest' from place before bytes' places_before places' left'
+so_far_is text from place before places_before rest bytes places rest' bytes' places' left left' r l p g far = record {
   parts = far.parts;
   are_pieces = far.are_pieces;
   stay = subst (λ v. StayRightly far.parts v) (sym r) far.stay;
+  begin = far.begin;
+  begun = far.begun;
   untitled = far.untitled;
   whole = ap (λ v. text_of far.parts ++ v) r ∙ far.whole;
   bytes_are = far.bytes_are ∙ sym l;
@@ -165,6 +191,7 @@ whole_text text from bytes places left out begins puts told = record {
   parts = puts.parts;
   are_pieces = puts.are_pieces;
   stay = puts.stay;
+  begin = puts.begin;
   whole = puts.whole;
   line_is = puts.bytes_are;
   places_are = ap (λ at. places_of at puts.parts) (sym begins) ∙ puts.places_are;

@@ -1,14 +1,19 @@
 -- What is seen of a line holds of it in its text.
-use Rattle.std.proofs.Common.{◌≡◌, ℕ, zero, suc, ◌+◌, ◌≤◌, ◌⊎◌, inl, inr, true, false, List, length, take, drop, get_or, slice_range, refl, sym, subst, ap, ◌∙◌, add-zero, arith}
+use Rattle.std.proofs.Common.{◌≡◌, ℕ, zero, suc, ◌+◌, ◌<◌, ◌≤◌, ◌⊎◌, inl, inr, nat_lt, ◌-◌, if◌then◌else◌, Bool, true, false, List, length, take, drop, get_or, slice_range, refl, sym, subst, ap, ◌∙◌, add-zero, arith}
 use Rattle.std.proofs.lemmas.Bool.{false≢true}
 use Rattle.niss_text.specs.Signs.{HasNoMoves}
 use Rattle.niss_text.specs.Doubts.{IsDoubted, is_capital}
 use Rattle.niss_text.specs.Kept.{BeginNoMoves, HasOnlyWords, IsTitleEnd, LosesNone, ArePlain, ArePlainBefore, begins_with_move, words_of_head}
+use Rattle.niss_text.specs.Said.{HasNoSlashes, HasWord, IsLabelled, IsSided, is_a_head, label_in, words_of_solution}
+use Rattle.niss_text.specs.Doubts.{is_letter as is_plain_letter}
 use Rattle.niss_text.specs.Lines.{IsTold}
+use Rattle.niss_text.specs.Pieces.{EndsWithColon}
 use Rattle.niss_text.specs.declared.line.Line.{Line}
 use Rattle.niss_text.specs.declared.text_line.TextLine.{TextLine}
 use Rattle.niss_text.proofs.KeptLemmas.{part_of_line, part_of_rest, rest_of_line}
 use Rattle.niss_text.proofs.CommentLemmas.{first_capital, moves_some}
+use Rattle.niss_text.proofs.SaidLemmas.{told_true}
+use Rattle.std.proofs.lemmas.Bool.Decides.{nat_tests}
 
 -- where the parts of a line stand that begins there
 pub record StandsAt (now : ℕ) (seen : Line) (line : TextLine) : Type 0 where
@@ -22,18 +27,30 @@ pub record StandsAt (now : ℕ) (seen : Line) (line : TextLine) : Type 0 where
 
 -- what is seen in the bytes of a line
 pub record IsSeen (bytes : List ℕ) (seen : Line) : Type 0 where
+  pub labelled : IsLabelled bytes (drop seen.label_begin bytes) seen.label_begin seen.moves
+  pub headed : is_a_head seen.head_kind ≡ nat_lt 0 seen.head
+  pub said : seen.is_solution ≡ true → HasWord is_plain_letter words_of_solution (slice_range bytes seen.label_begin seen.label_end)
   pub kept : LosesNone bytes 0 seen.head seen.label_begin seen.label_end seen.moves
   pub blank : seen.is_blank ≡ true → HasNoMoves (drop seen.head bytes)
   pub alone : seen.is_head_alone ≡ true → HasNoMoves (drop seen.head bytes)
   pub comment : begins_with_move (drop seen.comment bytes) ≡ false
+  pub uncommented : HasNoSlashes (slice_range bytes seen.moves seen.comment)
   pub plain : ArePlain bytes → (seen.is_moves ≡ true) × ((seen.moves ≡ 0) × (seen.comment ≡ seen.length))
   pub commented : (count : ℕ) → ArePlainBefore bytes count → (seen.is_moves ≡ true) × ((seen.moves ≡ 0) × (seen.comment ≡ count))
+
+-- what is told of it by numbers
+pub record SaysOf (seen : Line) (line : TextLine) : Type 0 where
+  pub headed : line.is_headed ≡ (if is_a_head seen.head_kind then 1 else 0)
+  pub says : line.says_solution ≡ (if seen.is_solution then 1 else 0)
 
 -- what kind of a line it is
 pub record HasKind (seen : Line) (kind : ℕ) : Type 0 where
   pub blank : kind ≡ 0 → (seen.is_blank ≡ true) ⊎ (seen.is_head_alone ≡ true)
   pub before : kind ≡ 1 → seen.is_moves ≡ false
   pub note : kind ≡ 4 → seen.is_moves ≡ false
+
+lt_shift : (m n : ℕ) → nat_lt 0 n ≡ nat_lt m (m + n)
+lt_shift m n = grind (arith, nat_tests)
 
 parts_kept : (text : List ℕ) (now : ℕ) (seen : Line) (line : TextLine) → StandsAt now seen line →
     LosesNone (take seen.length (drop now text)) 0 seen.head seen.label_begin seen.label_end seen.moves →
@@ -57,9 +74,15 @@ parts_kept text now seen line at kept =
     }
 
 pub is_told : (text : List ℕ) (now : ℕ) (seen : Line) (line : TextLine) → seen.length ≤ length (drop now text) → StandsAt now seen line →
-    IsSeen (take seen.length (drop now text)) seen → HasKind seen line.kind → line.kind ≤ 4 → IsDoubted text line → IsTold text line
-is_told text now seen line fits at is has known doubted = record {
+    IsSeen (take seen.length (drop now text)) seen → HasKind seen line.kind → SaysOf seen line → line.kind ≤ 4 → IsDoubted text line →
+    (HasNoSlashes (slice_range text line.moves line.comment) → IsSided text line) → IsTold text line
+is_told text now seen line fits at is has says known doubted sided = record {
   doubted = doubted;
+  headed = headed;
+  says = said;
+  sided = sided unslashed;
+  uncommented = unslashed;
+  labelled = λ begins. by_label (is.labelled (subst (λ v. begins_with_move v ≡ true) (sym from_label) begins));
   kept = parts_kept text now seen line at is.kept;
   blank = λ none. subst (λ n. HasNoMoves (slice_range text n line.end)) (sym at.head)
       (subst (λ n. HasNoMoves (slice_range text (now + seen.head) n)) (sym at.end)
@@ -71,6 +94,55 @@ is_told text now seen line fits at is has known doubted = record {
   commented = λ count before. by_comment count (subst (λ v. ArePlainBefore v count) (sym same) before);
 }
   where
+    unslashed : HasNoSlashes (slice_range text line.moves line.comment)
+    unslashed = subst (λ n. HasNoSlashes (slice_range text n line.comment)) (sym at.moves)
+        (subst (λ n. HasNoSlashes (slice_range text (now + seen.moves) n)) (sym at.comment)
+        (subst (λ v. HasNoSlashes v) (part_of_line text now seen.length seen.moves seen.comment seen.moves_in (omega (arith, seen.comment_in, seen.slashes_in)))
+        is.uncommented))
+
+    label_fits : seen.label_begin ≤ seen.length
+    label_fits = omega (arith, seen.label_in, seen.words_in, seen.moves_in, seen.comment_in, seen.slashes_in)
+
+    from_label : drop seen.label_begin (take seen.length (drop now text)) ≡ slice_range text line.label_begin line.end
+    from_label = rest_of_line text now seen.length seen.label_begin label_fits fits ∙ ap (λ n. slice_range text n (now + seen.length)) (sym at.label_begin)
+        ∙ ap (λ n. slice_range text line.label_begin n) (sym at.end)
+
+    by_label : (seen.moves ≡ seen.label_begin) ⊎ ((colon : ℕ) × ((seen.label_begin < colon) × (colon ≤ seen.moves))
+        × EndsWithColon (slice_range (take seen.length (drop now text)) seen.label_begin colon)) →
+        (line.moves ≡ line.label_begin) ⊎ ((colon : ℕ) × ((line.label_begin < colon) × (colon ≤ line.moves)) × EndsWithColon (slice_range text line.label_begin colon))
+    by_label (inl same) = inl (at.moves ∙ ap (λ n. now + n) same ∙ sym at.label_begin)
+    by_label (inr words) =
+        inr (
+          now + words.0,
+          (omega (arith, words.1.0, at.label_begin), omega (arith, words.1.1, at.moves)),
+          subst (λ n. EndsWithColon (slice_range text n (now + words.0))) (sym at.label_begin)
+              (subst (λ v. EndsWithColon v) (part_of_line text now seen.length seen.label_begin words.0 (omega (arith, words.1.0))
+              (omega (arith, words.1.1, seen.moves_in, seen.comment_in, seen.slashes_in))) words.2),
+        )
+
+    as_number : Bool → ℕ
+    as_number b = if b then 1 else 0
+
+    shifted : nat_lt 0 seen.head ≡ nat_lt line.begin line.head_end
+    shifted = ap (λ n. nat_lt 0 n) from_begin ∙ lt_shift line.begin (line.head_end - line.begin) ∙ ap (λ n. nat_lt line.begin n) back
+      where
+        from_begin : seen.head ≡ line.head_end - line.begin
+        from_begin = omega (arith, at.head, at.begin)
+
+        back : line.begin + (line.head_end - line.begin) ≡ line.head_end
+        back = omega (arith, at.head, at.begin)
+
+    headed : line.is_headed ≡ (if nat_lt line.begin line.head_end then 1 else 0)
+    headed = says.headed ∙ ap as_number (is.headed ∙ shifted)
+
+    said : line.says_solution ≡ 1 → HasWord is_plain_letter words_of_solution (label_in text line)
+    said one =
+        subst (λ n. HasWord is_plain_letter words_of_solution (slice_range text n line.label_end)) (sym at.label_begin)
+        (subst (λ n. HasWord is_plain_letter words_of_solution (slice_range text (now + seen.label_begin) n)) (sym at.label_end)
+        (subst (λ v. HasWord is_plain_letter words_of_solution v)
+        (part_of_line text now seen.length seen.label_begin seen.label_end seen.label_in (omega (arith, seen.words_in, seen.moves_in, seen.comment_in, seen.slashes_in)))
+        (is.said (told_true seen.is_solution (sym says.says ∙ one)))))
+
     head : seen.head ≤ seen.length
     head = omega (arith, seen.head_in, seen.label_in, seen.words_in, seen.moves_in, seen.comment_in, seen.slashes_in)
 

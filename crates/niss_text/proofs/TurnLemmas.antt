@@ -22,6 +22,14 @@ follows_is a b is = grind (arith, nat_tests)
 after_blank : (a b : ℕ) → a ≡ 32 → follows_turn a b ≡ true → (b ≡ 32 → ⊥) → is_capital b ≡ true
 after_blank a b blank far other = grind (arith, nat_tests)
 
+follows_two : (a b : ℕ) → is_turn a ≡ true → is_turn b ≡ true → follows_turn a b ≡ true → b ≡ 50
+follows_two a b first second far = grind (arith, nat_tests)
+
+-- what follows in a word of turns is a 2
+pub turn_next : (word : List ℕ) (k : ℕ) → AreTurns word → IsTurnUpTo word (length word) → k + 1 < length word → get_or word (k + 1) 0 ≡ 50
+turn_next word k turns all lt =
+    follows_two (get_or word k 0) (get_or word (k + 1) 0) (all.0 k (omega (arith, lt))) (all.0 (k + 1) lt) (turns.each k lt)
+
 turn_moves : (b : ℕ) → is_turn b ≡ true → is_of_moves b ≡ true
 unfolding is_of_moves
 turn_moves b turn = grind (arith, nat_tests)

@@ -129,8 +129,8 @@ pub record IsUncommentedStep (line : TextLine) : Type 0 where
   pub comment : line.comment ≡ line.end
 
 -- What is said to make a line doubtful stands there, and nothing at its end. Nothing is said of a line before a
--- scramble, of another scramble only in one, of several solutions and of moves in comments only in a step, of small
--- letters only in a scramble, or in a step without a capital one. A line of the scramble or of the solution of which
+-- scramble, of another scramble only in one, of several solutions only in a step, of moves in comments only in either,
+-- of small letters only in a scramble, or in a step without a capital one. A line of the scramble or of the solution of which
 -- nothing is said has no letters together that aren't written as moves, and no number of times after brackets; one of
 -- the scramble has no small letter of a turn either, and one of the solution none without a capital one, and no digit
 -- in square brackets among its moves. In both no comma stands among moves of which others are parted by blanks. Only a step
@@ -142,7 +142,7 @@ pub record IsDoubted (text : List ℕ) (line : TextLine) : Type 0 where
   pub before : line.kind < 2 → line.doubt ≡ 0
   pub another : line.doubt ≡ 1 → line.kind ≡ 2
   pub several : line.doubt ≡ 2 → line.kind ≡ 3
-  pub comment : line.doubt ≡ 6 → line.kind ≡ 3
+  pub comment : line.doubt ≡ 6 → (2 ≤ line.kind) × (line.kind ≤ 3)
   pub small : line.doubt ≡ 5 → ((2 ≤ line.kind) × (line.kind ≤ 3)) × (sees text Small line.doubt_at ≡ true)
   pub no_capital : line.doubt ≡ 5 → line.kind ≡ 3 → HasNone text Capital line.moves line.comment
   pub letters : line.doubt ≡ 4 → sees text Joined line.doubt_at ≡ true

@@ -4,6 +4,7 @@ use Rattle.std.specs.List.{All, list_any}
 use Rattle.niss_text.specs.Signs.{is_digit}
 use Rattle.niss_text.specs.Doubts.{is_letter}
 use Rattle.niss_text.specs.Kept.{HasOnlyWords, words_of_head}
+use Rattle.niss_text.specs.Lines.{Counts, HasNoneBetween, Takes}
 use Rattle.niss_text.specs.declared.known.KnownPart.{KnownPart}
 use Rattle.niss_text.specs.declared.parts.Part.{Part}
 use Rattle.niss_text.specs.declared.text_line.TextLine.{TextLine}
@@ -114,6 +115,31 @@ abbrev pub IsNamed : List TextLine → Part → Type 0
 IsNamed lines part = MatchOption (first_headed lines)
     ((part.has_head ≡ false) × (part.name_begin ≡ 0) × (part.name_end ≡ 0))
     (λ line. (part.has_head ≡ true) × (part.name_begin ≡ line.begin) × (part.name_end ≡ line.head_end))
+
+-- A part that follows a place of a text has something in it: no moves stand before it, nor between its begin and what is
+-- under its heads; that goes on to its end, with so many lines at most; and its name stands there too, if it has one.
+pub record HasBody (text : List ℕ) (from most : ℕ) (part : Part) : Type 0 where
+  pub before : HasNoneBetween text from part.begin
+  pub heads : HasNoneBetween text part.begin part.body
+  pub lines : ℕ
+  pub few : lines ≤ most
+  pub counts : Counts text part.body lines part.end
+  pub within : part.end ≤ length text
+  pub named : (part.name_end ≡ 0) ⊎ ((part.begin ≤ part.name_begin) × (part.name_end ≤ part.end))
+
+-- A part is read from a place of a text on, of so many lines: what it leaves out there has no moves, and that is all of it
+-- if there is nothing in it.
+pub record IsRead (text : List ℕ) (from count : ℕ) (part : Part) : Type 0 where
+  pub something : (part.has_head || part.has_moves) ≡ true → HasBody text from count part
+  pub nothing : (part.has_head || part.has_moves) ≡ false → HasNoneBetween text from part.end
+
+-- The parts of a text from one place to another, with the lines that are told of it: each goes from where it begins to some
+-- end, its name stands there, if it has one, and its lines are taken of what stands there. No moves stand between parts.
+unfoldable pub PartsTake : List ℕ → List TextLine → ℕ → List KnownPart → ℕ → Type 0
+PartsTake text lines from [] to = HasNoneBetween text from to
+PartsTake text lines from (part ∷ parts) to =
+    (end : ℕ) × HasNoneBetween text from part.begin × ((part.name_end ≡ 0) ⊎ ((part.begin ≤ part.name_begin) × (part.name_end ≤ end)))
+    × Takes text part.begin (slice_range lines part.first_line part.end_line) end × PartsTake text lines end parts to
 
 -- what is read of a part has the number of its name
 abbrev pub IsNumbered : List ℕ → Part → Type 0

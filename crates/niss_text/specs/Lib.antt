@@ -3,7 +3,9 @@ pub mod Signs
 pub mod Pieces
 pub mod Doubts
 pub mod Kept
+pub mod Said
 pub mod Lines
+pub mod Groups
 pub mod Known
 pub mod LeftOut
 pub mod Moves

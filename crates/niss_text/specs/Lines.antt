@@ -1,8 +1,10 @@
 -- The lines of a text, one after another, where their parts stand, and what is told of them.
-use Rattle.std.specs.Prelude.{◌≡◌, ℕ, zero, suc, ◌==◌, ◌+◌, ◌<◌, ◌≤◌, ◌⊎◌, ◌&&◌, true, false, if◌then◌else◌, List, [], ◌∷◌, length, slice_index, slice_range}
+use Rattle.std.specs.Prelude.{◌≡◌, ℕ, zero, suc, ◌==◌, ◌+◌, ◌-◌, ◌<◌, ◌≤◌, ◌⊎◌, ◌||◌, ◌&&◌, Bool, true, false, if◌then◌else◌, List, [], ◌∷◌, length, get_or, slice_index, slice_range, nat_lt}
 use Rattle.niss_text.specs.Signs.{ends_line, HasNoMoves}
 use Rattle.niss_text.specs.Doubts.{IsDoubted}
-use Rattle.niss_text.specs.Kept.{LosesNone, ArePlain, ArePlainBefore, begins_with_move}
+use Rattle.niss_text.specs.Kept.{HasOnlyWords, LosesNone, ArePlain, ArePlainBefore, begins_with_move, words_of_head}
+use Rattle.niss_text.specs.Said.{HasNoSlashes, HasWord, IsLabelled, IsSided, label_in, words_of_solution}
+use Rattle.niss_text.specs.Doubts.{is_letter as is_plain_letter}
 use Rattle.niss_text.specs.declared.text_line.TextLine.{TextLine}
 
 -- A line that begins there. Its parts stand in this order, and none overlaps another. Only a step is on the inverse.
@@ -19,21 +21,31 @@ pub record IsLine (from : ℕ) (line : TextLine) : Type 0 where
   pub kind : line.kind ≤ 4
   pub flags : (line.is_solution ≤ 1) × (line.is_headed ≤ 1) × (line.says_solution ≤ 1) × (line.is_inverse ≤ 1)
 
--- Two lines are of one kind, and have their parts in the same places.
+-- Two lines are of one kind and in one group, have their parts in the same places, and say the same.
 pub record IsPlacedAs (line other : TextLine) : Type 0 where
+  pub attempt : other.attempt ≡ line.attempt
+  pub group : other.group ≡ line.group
+  pub flags : (other.is_solution ≡ line.is_solution) × ((other.is_headed ≡ line.is_headed) × (other.says_solution ≡ line.says_solution))
   pub kind : other.kind ≡ line.kind
   pub head : other.head_end ≡ line.head_end
   pub label : (other.label_begin ≡ line.label_begin) × (other.label_end ≡ line.label_end)
   pub moves : (other.moves ≡ line.moves) × (other.comment ≡ line.comment)
 
--- What is told of a line of a text: what makes one doubt it. It loses no move before its moves; nothing that moves are
--- made of stands in a blank one after its head; what is said after the moves doesn't begin with a move by itself; and a
--- line that is plain moves is of a scramble or a step, all of it, or all up to the slashes if a comment follows the moves.
+-- What is told of a line of a text: what makes one doubt it, whether it is on the inverse, and whether it has a head.
+-- Its label has a word for a solution if it is told to say that one follows. It loses no move before its moves, which
+-- are no label where they begin it; nothing that moves are made of stands in a blank one after its head; no comment
+-- begins among the moves; what is said after them doesn't begin with a move by itself; and a line that is plain moves
+-- is of a scramble or a step, all of it, or all up to the slashes if a comment follows the moves.
 pub record IsTold (text : List ℕ) (line : TextLine) : Type 0 where
   pub doubted : IsDoubted text line
+  pub sided : IsSided text line
+  pub headed : line.is_headed ≡ (if nat_lt line.begin line.head_end then 1 else 0)
+  pub says : line.says_solution ≡ 1 → HasWord is_plain_letter words_of_solution (label_in text line)
   pub kept : LosesNone text line.begin line.head_end line.label_begin line.label_end line.moves
+  pub labelled : IsLabelled text (slice_range text line.label_begin line.end) line.label_begin line.moves
   pub blank : line.kind ≡ 0 → HasNoMoves (slice_range text line.head_end line.end)
   pub comment : begins_with_move (slice_range text line.comment line.end) ≡ false
+  pub uncommented : HasNoSlashes (slice_range text line.moves line.comment)
   pub plain : ArePlain (slice_range text line.begin line.end) →
       ((line.kind ≡ 2) ⊎ (line.kind ≡ 3)) × ((line.moves ≡ line.begin) × (line.comment ≡ line.end))
   pub commented : (count : ℕ) → ArePlainBefore (slice_range text line.begin line.end) count →
@@ -61,6 +73,10 @@ Counts text from zero to = from ≡ to
 Counts text from (suc count) to =
     (from < length text) × ((size : ℕ) × IsUnbroken text from size × IsEnd text (from + size) × Counts text (from + size + end_size text (from + size)) count to)
 
+-- So many lines stand in a text up to an end, all in all: that many before a place, and the others from there on.
+abbrev pub Remain : (text : List ℕ) (all before at end : ℕ) → Type 0
+Remain text all before at end = (rest : ℕ) × (before + rest ≡ all) × Counts text at rest end
+
 -- The lines of a text from one place to another: each of bytes that don't end it, and up to what does.
 unfoldable pub Covers : List ℕ → ℕ → List TextLine → ℕ → Type 0
 Covers text from [] to = from ≡ to
@@ -68,13 +84,48 @@ Covers text from (line ∷ lines) to =
     IsLine from line × (IsTold text line × ((size : ℕ) × (line.end ≡ from + size) × IsUnbroken text from size
     × IsEnd text line.end × Covers text (line.end + end_size text line.end) lines to))
 
+-- whether moves are in a line, by its kind: it is of a scramble or a step
+abbrev pub has_moves : TextLine → Bool
+has_moves line = (line.kind == 2) || (line.kind == 3)
+
+-- A head may stand in a line from one place to another: there are no letters but those of its words.
+pub record MayBeHead (text : List ℕ) (from to : ℕ) : Type 0 where
+  pub order : from ≤ to
+  pub unbroken : IsUnbroken text from (to - from)
+  pub words : HasOnlyWords words_of_head (slice_range text from to)
+
+-- Lines of a text from one place to another, in each of which no moves are, as it is told. Nothing stands between them,
+-- before the first and after the last but heads.
+unfoldable pub Passes : List ℕ → ℕ → List TextLine → ℕ → Type 0
+Passes text from [] to = MayBeHead text from to
+Passes text from (line ∷ lines) to =
+    MayBeHead text from line.begin × (IsLine line.begin line × (IsTold text line × ((has_moves line ≡ false) × ((size : ℕ) × (line.end ≡ line.begin + size)
+    × IsUnbroken text line.begin size × IsEnd text line.end × Passes text (line.end + end_size text line.end) lines to))))
+
+-- What stands in a text from one place to another has no moves: lines without any, and heads.
+abbrev pub HasNoneBetween : List ℕ → ℕ → ℕ → Type 0
+HasNoneBetween text from to = (lines : List TextLine) × Passes text from lines to
+
 -- Some of the lines of a text from one place to another, in order: each from some place in its line to what ends that.
--- Others may stand between them.
+-- What stands between them, before the first and after the last has no moves.
 unfoldable pub Takes : List ℕ → ℕ → List TextLine → ℕ → Type 0
-Takes text from [] to = from ≤ to
+Takes text from [] to = HasNoneBetween text from to
 Takes text from (line ∷ lines) to =
-    (from ≤ line.begin) × (IsLine line.begin line × (IsTold text line × ((size : ℕ) × (line.end ≡ line.begin + size) × IsUnbroken text line.begin size
+    HasNoneBetween text from line.begin × (IsLine line.begin line × (IsTold text line × ((size : ℕ) × (line.end ≡ line.begin + size) × IsUnbroken text line.begin size
     × IsEnd text line.end × Takes text (line.end + end_size text line.end) lines to)))
+
+-- A line of a text goes from one place to another, and is plain moves, or those up to the slashes of a comment.
+pub record IsPlainLine (text : List ℕ) (begin end : ℕ) : Type 0 where
+  pub first : (begin ≡ 0) ⊎ ((k : ℕ) × (begin ≡ k + 1) × (ends_line (slice_index text k) ≡ true))
+  pub unbroken : IsUnbroken text begin (end - begin)
+  pub ended : IsEnd text end
+  pub within : end ≤ length text
+  pub plain : ArePlain (slice_range text begin end) ⊎ ((count : ℕ) × ArePlainBefore (slice_range text begin end) count)
+
+-- each line of a text that is plain moves is one of these
+abbrev pub TellsPlain : List ℕ → List TextLine → Type 0
+TellsPlain text lines = (begin end : ℕ) → IsPlainLine text begin end →
+    (k : ℕ) × (k < length lines) × ((none : TextLine) → ((get_or lines k none).begin ≡ begin) × ((get_or lines k none).end ≡ end))
 
 -- The attempts of lines are numbered in order, from that many on: a line is of the next one, or of the same as the line
 -- before. After the lines these are so many.

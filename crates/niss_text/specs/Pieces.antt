@@ -1,5 +1,5 @@
 -- What a text is read as: pieces, one after another, of which each is written in its place or left out.
-use Rattle.std.specs.Prelude.{◌≡◌, ℕ, ◌+◌, ◌<◌, ◌≤◌, Bool, true, false, List, [], ◌∷◌, ◌++◌, length, replicate, take, slice_index, ◌⊎◌}
+use Rattle.std.specs.Prelude.{◌≡◌, ℕ, ◌+◌, ◌<◌, ◌≤◌, Bool, true, false, List, [], ◌∷◌, ◌++◌, length, replicate, take, drop, slice_index, ◌⊎◌}
 use Rattle.niss_text.specs.declared.piece.Piece.{Piece}
 use Rattle.niss_text.specs.declared.piece.Piece.TheVariants.{Kept, Blank, LineEnd, Comma, Apostrophe, Unseen, Label, LineNumber, MoveCount, Comment}
 use Rattle.niss_text.specs.Signs.{AreWords, IsOneOf, is_blank, is_line_end, is_comma, is_apostrophe, is_unseen, is_colon, is_letter, ends_line, begins_number, begins_changed}
@@ -32,10 +32,10 @@ pub record EndsWithColon (bytes : List ℕ) : Type 0 where
 abbrev pub IsLabel : List ℕ → Type 0
 IsLabel bytes = EndsWithColon bytes ⊎ HasOnlyWords words_of_head bytes
 
--- What each kind of piece may be. A sign that is written otherwise or not is one of those that its kind has, and has no
--- byte of moves. A label begins with a letter, as moves may, but it is words with a colon, or has only those of a head. A
--- number of a line has no letter and no opened bracket, one of moves no letter but those of its word. A label,
--- a number of a line and a comment end within it.
+-- What each kind of piece may be. A sign that is written otherwise or not is one of those that its kind has, and has
+-- no byte of moves. A label begins with a letter, as moves may, but it is words with a colon, or has only those of a
+-- head. A number of a line has no letter and no opened bracket, one of moves no letter but those of its word. A
+-- label, a number of a line and a comment end within it.
 abbrev pub IsPiece : Piece → List ℕ → Type 0
 IsPiece Kept bytes = length bytes ≡ 1
 IsPiece Blank bytes = IsOneOf is_blank bytes
@@ -53,12 +53,18 @@ pub record MayStay (text : List ℕ) : Type 0 where
   pub unchanged : begins_changed text ≡ false
   pub uncommented : slice_index text 0 ≡ 47 → slice_index text 1 ≡ 47 → ⊥
 
--- The first bytes of a text, that many and at least one, are such a piece. A byte stays only where it may.
+-- a text ends, or begins with what ends a line
+abbrev pub EndsLine : List ℕ → Type 0
+EndsLine text = 0 < length text → ends_line (slice_index text 0) ≡ true
+
+-- The first bytes of a text, that many and at least one, are such a piece. A byte stays only where it may, and a
+-- comment goes on up to the end of its line.
 pub record IsFirst (text : List ℕ) (kind : Piece) (count : ℕ) : Type 0 where
   pub some : 0 < count
   pub fits : count ≤ length text
   pub is : IsPiece kind (take count text)
   pub stays : kind ≡ Kept → MayStay text
+  pub ends : kind ≡ Comment → EndsLine (drop count text)
 
 -- what is written of a piece: what stays, one blank, the grammar's other apostrophe, or nothing
 abbrev pub written : Piece → List ℕ → List ℕ
@@ -93,10 +99,33 @@ unfoldable pub ArePieces : List Part → Type 0
 ArePieces [] = Unit {0}
 ArePieces (p ∷ ps) = (0 < length p.bytes) × IsPiece p.kind p.bytes × ArePieces ps
 
--- In the text that pieces make, with what follows them, each byte that stays may.
+-- A piece stands rightly before other bytes: if it stays it may, and if it is a comment its line ends there.
+pub record StandsBefore (p : Part) (after : List ℕ) : Type 0 where
+  pub stays : p.kind ≡ Kept → MayStay (p.bytes ++ after)
+  pub ends : p.kind ≡ Comment → EndsLine after
+
+-- So each piece stands in the text that they make, with what follows them.
 unfoldable pub StayRightly : List Part → List ℕ → Type 0
 StayRightly [] rest = Unit {0}
-StayRightly (p ∷ ps) rest = (p.kind ≡ Kept → MayStay (p.bytes ++ (text_of ps ++ rest))) × StayRightly ps rest
+StayRightly (p ∷ ps) rest = StandsBefore p (text_of ps ++ rest) × StayRightly ps rest
+
+-- After a piece one is at the beginning of a line: it ended one, or only parts what stands there.
+abbrev pub is_begun : Bool → Piece → Bool
+is_begun begun Kept = false
+is_begun begun Blank = begun
+is_begun begun LineEnd = true
+is_begun begun Comma = false
+is_begun begun Apostrophe = false
+is_begun begun Unseen = begun
+is_begun begun Label = false
+is_begun begun LineNumber = false
+is_begun begun MoveCount = false
+is_begun begun Comment = false
+
+-- Each number of a line stands at its beginning, before which are only blanks and signs that aren't seen.
+unfoldable pub BeginLines : Bool → List Part → Type 0
+BeginLines begun [] = Unit {0}
+BeginLines begun (p ∷ ps) = (p.kind ≡ LineNumber → begun ≡ true) × BeginLines (is_begun begun p.kind) ps
 
 -- a piece that stands before the moves of a line
 abbrev pub is_title : Piece → Bool

@@ -208,6 +208,26 @@ is_of_words Beyond = true
 is_of_words Inner = true
 is_of_words Other = false
 
+-- a letter, or a byte of a sign beyond ASCII
+abbrev pub is_of_letters : Kind → Bool
+is_of_letters LineEnd = false
+is_of_letters Blank = false
+is_of_letters Unseen = false
+is_of_letters Comma = false
+is_of_letters Apostrophe = false
+is_of_letters Prime = false
+is_of_letters Colon = false
+is_of_letters Dash = false
+is_of_letters Slash = false
+is_of_letters Open = false
+is_of_letters Close = false
+is_of_letters Digit = false
+is_of_letters Capital = true
+is_of_letters Small = true
+is_of_letters Beyond = true
+is_of_letters Inner = true
+is_of_letters Other = false
+
 -- a line feed or a return
 abbrev pub ends_line : ℕ → Bool
 ends_line b = b == 10 || b == 13

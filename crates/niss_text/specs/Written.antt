@@ -1,6 +1,6 @@
 -- A part of a text that is written after the beginning of a line.
-use Rattle.std.specs.Prelude.{◌≡◌, ℕ, Option, List, [], ◌++◌, length}
-use Rattle.niss_text.specs.Pieces.{Part, ArePieces, StayRightly, HasNoTitle, text_of, line_of, places_of}
+use Rattle.std.specs.Prelude.{◌≡◌, ℕ, true, Option, List, [], ◌++◌, length}
+use Rattle.niss_text.specs.Pieces.{Part, ArePieces, StayRightly, BeginLines, HasNoTitle, text_of, line_of, places_of}
 use Rattle.niss_text.specs.LeftOut.{both, left_of_all}
 use Rattle.niss_text.specs.Moves.{AreMoves, gap_after, place_after, bytes_of_moves, places_of_moves, left_of_moves, part_of}
 use Rattle.niss_text.specs.declared.left_out.LeftOut.{LeftOut}
@@ -15,6 +15,7 @@ pub record PutsPart (part : List ℕ) (from : Beginning) (before bytes places_be
   pub parts : List Part
   pub are_pieces : ArePieces parts
   pub stay : StayRightly parts []
+  pub begin : BeginLines true parts
   pub untitled : from.place ≡ Among → HasNoTitle parts
   pub whole : text_of parts ≡ part
   pub bytes_are : before ++ line_of parts ≡ bytes

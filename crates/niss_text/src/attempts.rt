@@ -1,11 +1,13 @@
 //! The attempts of a text as solvers write it: which of its lines are scrambles, steps and notes.
-ghost use Rattle.std.specs.Prelude.{◌≡◌, ◌≤◌, ◌<◌, ◌+◌, ◌⊎◌, true, false, length, take, drop, set};
+ghost use Rattle.std.specs.Prelude.{◌≡◌, ◌≤◌, ◌<◌, ◌+◌, ◌⊎◌, ℕ, true, false, length, take, drop, set, slice_range, ◌&&◌, nat_le};
 ghost use Rattle.niss_text.specs.Numbers.{number_of_kind};
-ghost use Rattle.niss_text.specs.Lines.{IsLine, Covers, Counts, Takes, AreNumbered, Begins, BeginNumbered};
+ghost use Rattle.niss_text.specs.Lines.{IsLine, Covers, Counts, Takes, Remain, AreNumbered, Begins, BeginNumbered};
+ghost use Rattle.niss_text.specs.Said.{is_a_head};
+ghost use Rattle.niss_text.specs.Groups.{AreGrouped, AreBelow, Goes, is_that};
 
 use crate::body::is_whole_scramble;
 use crate::doubts::{Sheet, judged};
-use crate::groups::{Group, Solutions};
+use crate::groups::{Group, Solutions, is_same};
 use crate::line::{Line, Numbers, cut_line};
 use crate::outline::{is_head, length_behind_scramble, outline_of};
 use crate::sign::from_place;
@@ -32,11 +34,16 @@ struct Attempt {
     numbers: Numbers,
     /// Prose before its scramble is told from it: it has a name, or steps.
     is_formed: bool,
-    /// Nothing solves its scramble, or that says that it is a step, and it isn't whole, though another of the text is.
+    /// Its scramble may be none: it isn't whole, and says that it is a step, or it is unlike others and has no steps, or it is
+    /// given again without any.
     is_strange: bool,
+    /// A sign may have been lost of the R' U' F at one end of its scramble.
+    is_half_framed: bool,
     solution: Option<usize>,
     /// Where a line after the scramble begins that may be of one.
     stray: Option<usize>,
+    /// Where a step begins that comes before one above it.
+    out_of_order: Option<usize>,
     first: usize,
     scramble_end: usize,
     length: usize,
@@ -44,22 +51,33 @@ struct Attempt {
     ghost scramble_in: { scramble_end ≤ length },
 }
 
-/// The first attempt of a stretch of a text, which has whole scrambles or not. What follows an attempt and has no moves is
-/// notes of that one.
-fn first_attempt(text: &[u8], numbers: Numbers, number: usize, has_whole: bool) -> Attempt
-    ensures within { result.length ≤ length text.now }
-    ensures some { 0 < length text.now → 0 < result.length }
+/// The first attempt of a text, in its first stretch, which has that many bytes; it has whole scrambles or not. What
+/// follows an attempt and has no moves is notes of that one.
+fn first_attempt(
+    text: &[u8],
+    stretch: usize,
+    numbers: Numbers,
+    number: usize,
+    has_whole: bool,
+) -> Attempt
+    requires { stretch ≤ length text.now }
+    ensures within { result.length ≤ stretch }
+    ensures some { 0 < stretch → 0 < result.length }
     ensures number { result.number ≡ number }
 {
-    let seen = outline_of(text, numbers);
+    let seen = outline_of(&text[..stretch], numbers);
     let lines = &text[..seen.length];
     let scramble_end = seen.scramble_end(lines, numbers);
-    let solutions = Solutions::seen_in(&lines[scramble_end..], numbers);
+    let solutions = Solutions::seen_in(&lines[scramble_end..], seen.title(lines), numbers);
+    let scramble = seen.scramble(lines);
+    let is_unlike = !seen.is_whole() && (seen.is_step || (has_whole && !solutions.has_moves()));
+    let is_given_again = !solutions.has_lines && is_same(scramble, &text[seen.length..], numbers);
     Attempt {
         number,
         numbers,
         is_formed: seen.has_name || solutions.has_lines,
-        is_strange: has_whole && !seen.is_whole() && (seen.is_step || !solutions.has_moves()),
+        is_strange: is_unlike || is_given_again,
+        is_half_framed: seen.is_half_framed(lines),
         solution: if seen.has_several {
             None
         } else {
@@ -70,6 +88,7 @@ fn first_attempt(text: &[u8], numbers: Numbers, number: usize, has_whole: bool) 
         } else {
             solutions.stray(scramble_end)
         },
+        out_of_order: solutions.out_of_order(scramble_end),
         first: seen.first,
         scramble_end,
         length: seen.length,
@@ -82,7 +101,9 @@ impl Attempt {
         Sheet {
             has_solution: self.solution.is_some(),
             is_strange: self.is_strange,
+            is_half_framed: self.is_half_framed,
             is_stray: self.stray == Some(at),
+            is_out_of_order: self.out_of_order == Some(at),
         }
     }
 
@@ -91,6 +112,12 @@ impl Attempt {
         ensures blank { number_of_kind result ≡ 0 → (line.now.is_blank ≡ true) ⊎ (line.now.is_head_alone ≡ true) }
         ensures before { number_of_kind result ≡ 1 → line.now.is_moves ≡ false }
         ensures note { number_of_kind result ≡ 4 → line.now.is_moves ≡ false }
+        ensures step { number_of_kind result ≡ 3 → line.now.is_moves ≡ true }
+        ensures early { at < self.now.scramble_end → number_of_kind result ≤ 2 }
+        ensures later { self.now.scramble_end ≤ at → (number_of_kind result ≡ 0) ⊎ (3 ≤ number_of_kind result) }
+        ensures filled { self.now.scramble_end ≤ at → number_of_kind result ≡ 0 → line.now.is_blank ≡ true }
+        ensures unfilled { line.now.is_blank ≡ true → number_of_kind result ≡ 0 }
+        ensures steps { self.now.scramble_end ≤ at → line.now.is_blank ≡ false → line.now.is_moves ≡ true → number_of_kind result ≡ 3 }
     {
         if line.is_blank || (at < self.first && line.is_head_alone) {
             LineKind::Blank
@@ -106,14 +133,39 @@ impl Attempt {
     }
 }
 
+/// Whether a group is the solution, if one is.
+fn is_that(solution: Option<usize>, group: usize) -> bool
+    ensures { result ≡ is_that solution group }
+{
+    match solution {
+        Some(number) => number == group,
+        None => false,
+    }
+}
+
+/// The group after one more line of an attempt, which begins there.
+fn group_at(attempt: &Attempt, at: usize, group: Group, line: &Line) -> Group
+    ensures early { at < attempt.now.scramble_end → result ≡ group }
+    ensures later { attempt.now.scramble_end ≤ at → group.number < usize.MAX → Goes group result line.now }
+{
+    if at >= attempt.scramble_end {
+        group.after(line)
+    } else {
+        group
+    }
+}
+
 /// What a line of an attempt is there, of this kind and in this group.
 fn role_of(attempt: &Attempt, line: &Line, kind: LineKind, group: usize) -> Role
     ensures attempt { result.attempt ≡ attempt.now.number }
     ensures kind { result.kind ≡ kind }
+    ensures group { result.group ≡ group }
+    ensures headed { result.is_headed ≡ is_a_head line.now.head_kind }
+    ensures solution { result.is_solution ≡ (nat_le 3 (number_of_kind kind) && is_that attempt.now.solution group) }
 {
     Role {
         kind,
-        is_solution: kind.is_after_scramble() && attempt.solution == Some(group),
+        is_solution: kind.is_after_scramble() && is_that(attempt.solution, group),
         is_headed: is_head(line),
         attempt: attempt.number,
         group,
@@ -145,15 +197,20 @@ fn put_attempt(
     ensures further { (begin < result.1) × (result.1 ≤ length text.now) }
     ensures covers { Covers text.now 0 (take written lines.old) begin → result.0 ≤ length lines.new →
         Covers text.now 0 (take result.0 lines.new) result.1 }
-    ensures takes { Takes text.now 0 (take written lines.old) begin → result.0 ≤ length lines.new →
-        Takes text.now 0 (take result.0 lines.new) result.1 }
+    ensures takes { (from first : ℕ) → first ≤ written → Takes text.now from (slice_range lines.old first written) begin →
+        result.0 ≤ length lines.new → Takes text.now from (slice_range lines.new first result.0) result.1 }
+    ensures kept { take written lines.new ≡ take written lines.old }
     ensures counts { Counts text.now 0 written begin → Counts text.now 0 result.0 result.1 }
+    ensures remain { (all end : ℕ) → begin + attempt.now.length ≤ end → end ≤ length text.now → Remain text.now all written begin end →
+        Remain text.now all result.0 result.1 end }
     ensures numbers { AreNumbered 0 (take written lines.old) attempt.now.number → result.0 ≤ length lines.new →
         AreNumbered 0 (take result.0 lines.new) (attempt.now.number + 1) }
     ensures begins { (written ≤ length lines.old → Covers text.now 0 (take written lines.old) begin) →
         Begins text.now (take written lines.old) → Begins text.now (take result.0 lines.new) }
     ensures in_order { (written ≤ length lines.old → AreNumbered 0 (take written lines.old) attempt.now.number) →
         BeginNumbered (take written lines.old) → BeginNumbered (take result.0 lines.new) }
+    ensures groups { AreBelow attempt.now.number (take written lines.old) → AreGrouped (take written lines.old) →
+        AreBelow (attempt.now.number + 1) (take result.0 lines.new) × AreGrouped (take result.0 lines.new) }
     ensures behind { drop result.0 lines.new ≡ drop result.0 lines.old }
 {
     let mut at = 0;
@@ -162,9 +219,7 @@ fn put_attempt(
     while at < attempt.length {
         let rest = from_place(text, begin + at);
         let (line, whole) = cut_line(rest, attempt.numbers);
-        if at >= attempt.scramble_end {
-            group = group.after(&line);
-        }
+        group = group_at(attempt, at, group, &line);
         let role = role_of(attempt, &line, attempt.kind_at(at, &line), group.number);
         let told = told_line(&role, &line, begin + at);
         let told = judged(text, told, &line, attempt.sheet(at));
@@ -205,15 +260,19 @@ pub fn put_attempts(text: &[u8], end: usize, so_far: Progress, lines: &mut [Text
     ensures further { (end ≤ result.at) × ((so_far.at ≤ result.at) × (result.at ≤ length text.now)) }
     ensures covers { Covers text.now 0 (take so_far.lines lines.old) so_far.at → result.lines ≤ length lines.new →
         Covers text.now 0 (take result.lines lines.new) result.at }
-    ensures takes { Takes text.now 0 (take so_far.lines lines.old) so_far.at → result.lines ≤ length lines.new →
-        Takes text.now 0 (take result.lines lines.new) result.at }
+    ensures takes { (from first : ℕ) → first ≤ so_far.lines → Takes text.now from (slice_range lines.old first so_far.lines) so_far.at →
+        result.lines ≤ length lines.new → Takes text.now from (slice_range lines.new first result.lines) result.at }
+    ensures kept { take so_far.lines lines.new ≡ take so_far.lines lines.old }
     ensures counts { Counts text.now 0 so_far.lines so_far.at → Counts text.now 0 result.lines result.at }
+    ensures all { (all : ℕ) → Remain text.now all so_far.lines so_far.at end → (result.at ≡ end) × (result.lines ≡ all) }
     ensures numbers { AreNumbered 0 (take so_far.lines lines.old) so_far.attempts → so_far.attempts ≤ so_far.at →
         result.lines ≤ length lines.new → AreNumbered 0 (take result.lines lines.new) result.attempts }
     ensures begins { (so_far.lines ≤ length lines.old → Covers text.now 0 (take so_far.lines lines.old) so_far.at) →
         Begins text.now (take so_far.lines lines.old) → Begins text.now (take result.lines lines.new) }
     ensures in_order { (so_far.lines ≤ length lines.old → AreNumbered 0 (take so_far.lines lines.old) so_far.attempts) →
         so_far.attempts ≤ so_far.at → BeginNumbered (take so_far.lines lines.old) → BeginNumbered (take result.lines lines.new) }
+    ensures groups { so_far.attempts ≤ so_far.at → AreBelow so_far.attempts (take so_far.lines lines.old) →
+        AreGrouped (take so_far.lines lines.old) → AreGrouped (take result.lines lines.new) }
     ensures behind { drop result.lines lines.new ≡ drop result.lines lines.old }
 {
     let part = &text[so_far.at.min(end)..end];
@@ -229,7 +288,13 @@ pub fn put_attempts(text: &[u8], end: usize, so_far: Progress, lines: &mut [Text
             stretch_end = at + stretch_length(&text[at..end]);
             numbers = numbers_of(&text[at..stretch_end], has_extras);
         }
-        let attempt = first_attempt(&text[at..stretch_end], numbers, attempts, has_whole);
+        let attempt = first_attempt(
+            &text[at..end],
+            stretch_end - at,
+            numbers,
+            attempts,
+            has_whole,
+        );
         let (more, next) = put_attempt(text, at, &attempt, lines, count);
         count = more;
         at = next;
@@ -249,8 +314,10 @@ pub fn put_solution(text: &[u8], end: usize, so_far: Progress, lines: &mut [Text
     requires end { end ≤ length text.now }
     ensures more { so_far.lines ≤ result.lines }
     ensures within { (so_far.at ≤ result.at) × (result.at ≤ length text.now) }
-    ensures takes { Takes text.now 0 (take so_far.lines lines.old) so_far.at → result.lines ≤ length lines.new →
-        Takes text.now 0 (take result.lines lines.new) result.at }
+    ensures remain { (all : ℕ) → Remain text.now all so_far.lines so_far.at end → Remain text.now all result.lines result.at end }
+    ensures takes { (from first : ℕ) → first ≤ so_far.lines → Takes text.now from (slice_range lines.old first so_far.lines) so_far.at →
+        result.lines ≤ length lines.new → Takes text.now from (slice_range lines.new first result.lines) result.at }
+    ensures kept { take so_far.lines lines.new ≡ take so_far.lines lines.old }
     ensures behind { drop result.lines lines.new ≡ drop result.lines lines.old }
 {
     let length = length_behind_scramble(&text[so_far.at..end]);
@@ -275,13 +342,16 @@ fn solution_alone(text: &[u8]) -> Attempt
     ensures { result.length ≡ length text.now }
 {
     let numbers = Numbers::OfLines;
+    let solutions = Solutions::seen_in(text, &[], numbers);
     Attempt {
         number: 0,
         numbers,
         is_formed: true,
         is_strange: false,
-        solution: Solutions::seen_in(text, numbers).group(),
+        is_half_framed: false,
+        solution: solutions.group(),
         stray: None,
+        out_of_order: solutions.out_of_order(0),
         first: 0,
         scramble_end: 0,
         length: text.len(),
@@ -297,6 +367,7 @@ pub fn text_lines(text: &[u8], lines: &mut [TextLine]) -> TextAnswer
     ensures numbers { result.lines ≤ length lines.old → AreNumbered 0 (take result.lines lines.new) result.attempts }
     ensures begins { Begins text.now (take result.lines lines.new) }
     ensures in_order { BeginNumbered (take result.lines lines.new) }
+    ensures groups { AreGrouped (take result.lines lines.new) }
     ensures few { result.lines ≤ length text.now }
     ensures done { result.lines ≤ length lines.old → result.status ≡ 0 }
     ensures room { length lines.old < result.lines → result.status ≡ 4 }

@@ -1,8 +1,19 @@
 //! Whether what stands in a line is all of a scramble.
-ghost use Rattle.std.specs.Prelude.{◌≤◌, ◌<◌, length, IfSome};
+ghost use Rattle.std.specs.Prelude.{◌≡◌, ◌≤◌, ◌<◌, ◌+◌, true, length, IfSome};
 
 use crate::sights::is_capital;
 use crate::sign::{Class, behind, first_kind, one_sign, trimmed};
+
+/// How many bytes a scramble has at least, on one line: those of fifteen moves.
+const SCRAMBLE_BYTES: usize = 40;
+
+/// Whether moves from one place of a line to another have as many bytes as a scramble, or more.
+pub fn are_long(begin: usize, end: usize) -> bool
+    requires { begin ≤ end }
+    ensures { (result ≡ true → begin + 40 ≤ end) × (begin + 40 ≤ end → result ≡ true) }
+{
+    end - begin >= SCRAMBLE_BYTES
+}
 
 /// What is after an apostrophe in front of a text, if it is there, from the next letter on, which may be on another line.
 #[inline(never)]
@@ -50,7 +61,7 @@ fn behind_frame(text: &[u8]) -> Option<&[u8]>
 }
 
 /// Whether one of the bytes is the letter of a turn.
-fn has_turn(text: &[u8]) -> bool {
+pub fn has_turn(text: &[u8]) -> bool {
     text.iter().any(|byte| is_capital(*byte))
 }
 
@@ -144,6 +155,39 @@ fn has_two_frames(text: &[u8]) -> bool {
         rest = behind;
     }
     false
+}
+
+/// The letters of the first three turns of a text.
+fn first_letters(text: &[u8]) -> [u8; 3] {
+    let mut letters = [0; 3];
+    let mut count = 0u8;
+    for byte in text {
+        if is_capital(*byte) && count < 3 {
+            letters = [letters[1], letters[2], *byte];
+            count += 1;
+        }
+    }
+    letters
+}
+
+/// The letters of the last three.
+fn last_letters(text: &[u8]) -> [u8; 3] {
+    let mut letters = [0; 3];
+    for byte in text {
+        if is_capital(*byte) {
+            letters = [letters[1], letters[2], *byte];
+        }
+    }
+    letters
+}
+
+/// Whether moves begin or end with R' U' F, and have the same letters at the other end, where a sign may have been lost.
+pub fn is_half_framed(moves: &[u8]) -> bool {
+    if begins_scramble(moves) {
+        last_letters(moves) == *b"RUF" && !ends_with_frame(moves)
+    } else {
+        first_letters(moves) == *b"RUF" && ends_with_frame(moves)
+    }
 }
 
 /// Whether turns stand in a line before or after all of a scramble.

@@ -1,22 +1,26 @@
 //! What makes one doubt that a line is read as it was meant.
 ghost use Rattle.std.specs.Prelude.{◌≡◌, ◌≤◌, ◌<◌, ◌+◌, ◌-◌, ◌⊎◌, true, length, IfSome};
 ghost use Rattle.niss_text.specs.Doubts.{IsDoubted, IsAsWritten, IsUncommentedStep, HasNone, number_of, sees};
+ghost use Rattle.niss_text.specs.Doubts.{is_letter as is_plain_letter};
+ghost use Rattle.niss_text.specs.Signs.{is_letter};
+ghost use Rattle.niss_text.specs.Said.{HasWord, HasNoSlashes, IsOnInverse, IsPlainlyOnInverse, IsSided};
+ghost use Rattle.niss_text.specs.Said.{are_spelled, words_of, label_in, moves_in, comment_in};
 ghost use Rattle.niss_text.specs.Lines.{IsLine, IsPlacedAs};
 ghost use Rattle.niss_text.specs.declared.doubts.Doubt.TheVariants.{Nothing, Letters, SmallLetters};
 ghost use Rattle.niss_text.specs.declared.sights.Sight.TheVariants.{Small, Capital, Joined, Repeated, Marked, Comma, Gap};
 
 use crate::among_moves::{comma_at, letters_at, small_alone};
-use crate::body::has_more_than_scramble;
+use crate::body::{are_long, has_more_than_scramble};
 use crate::forms::has_bracket;
-use crate::line::{Line, are_long};
+use crate::line::Line;
 use crate::marks::{
-    begin_with_letter_of_words, defined_mark, has_slice, is_mark, is_no_count, letter_of_words,
-    times_at_end, times_said,
+    begin_with_letter_of_words, column_at, defined_mark, has_moves_aside, has_slice, is_mark,
+    is_no_count, letter_of_words, times_at_end, times_said,
 };
-use crate::sights::{Sight, first_seen, is_letter};
-use crate::text_line::{LineKind, TextLine};
-use crate::word::has_three_moves;
-use crate::words::{Topic, Wanted, first_topic, is_normal_side, says, word_length};
+use crate::said::{Said, doubt_said, first_said};
+use crate::sights::{Sight, first_seen};
+use crate::text_line::{LineKind, TextLine, flag};
+use crate::words::{Wanted, says};
 
 /// A reason for a doubt.
 #[derive(Clone, Copy, PartialEq, Eq)]
@@ -32,7 +36,7 @@ pub enum Doubt {
     Letters,
     /// A scramble has a move in a small letter, or a step has no others.
     SmallLetters,
-    /// Three moves or more stand one after another in a comment, or a letter before one may be of its words.
+    /// Moves that may belong to the line stand in its comment, or a letter before one may be of its words.
     Comment,
     /// Moves are said to be made several times.
     Repetition,
@@ -49,10 +53,14 @@ pub enum Doubt {
 pub struct Sheet {
     /// A group of it is the solution.
     pub has_solution: bool,
-    /// Its scramble isn't written as others of the text, and it has no steps.
+    /// Its scramble may be none.
     pub is_strange: bool,
+    /// A sign may have been lost of the R' U' F at one end of its scramble.
+    pub is_half_framed: bool,
     /// The line may be of a scramble, though it stands after one.
     pub is_stray: bool,
+    /// It is a step that comes before one above it, by what their labels say.
+    pub is_out_of_order: bool,
 }
 
 impl Doubt {
@@ -78,74 +86,6 @@ impl Doubt {
     }
 }
 
-/// What makes one doubt moves of which something is said by the letters that a text begins with, after others. A side
-/// counts only if the moves have no brackets.
-fn doubt_of_words(text: &[u8], before: &[u8], has_brackets: bool) -> Doubt
-    ensures others { (number_of result ≡ 4 → ⊥) × (number_of result ≡ 5 → ⊥) }
-    ensures said { (number_of result ≡ 1 → ⊥) × ((number_of result ≡ 2 → ⊥) × ((number_of result ≡ 6 → ⊥) × (number_of result ≡ 11 → ⊥))) }
-{
-    match first_topic(text, before) {
-        Some(Topic::Side) if !has_brackets => Doubt::Side,
-        Some(Topic::Repetition) => Doubt::Repetition,
-        Some(Topic::Insertion) => Doubt::Insertion,
-        Some(Topic::Unread) => Doubt::Signs,
-        _ => Doubt::Nothing,
-    }
-}
-
-/// What is said first in a part of a text that makes one doubt its moves, and where: by a word of its own, or by the
-/// inverse in another. At the part's end if nothing is.
-fn first_said(text: &[u8], from: usize, to: usize, has_brackets: bool) -> (Doubt, usize)
-    requires { to ≤ length text.now }
-    ensures fits { result.1 ≤ to }
-    ensures there { from ≤ to → from ≤ result.1 }
-    ensures others { (number_of result.0 ≡ 4 → ⊥) × (number_of result.0 ≡ 5 → ⊥) }
-    ensures said { (number_of result.0 ≡ 1 → ⊥) × ((number_of result.0 ≡ 2 → ⊥) × ((number_of result.0 ≡ 6 → ⊥) × (number_of result.0 ≡ 11 → ⊥))) }
-{
-    for at in from..to {
-        let rest = &text[at..to];
-        // no word begins within a sign
-        if !is_letter(text[at]) && text[at] < 0xc0 {
-            continue;
-        }
-        let is_begun = at == from || !is_letter(text[at.saturating_sub(1)]);
-        let before = &text[from..at];
-        if is_normal_side(rest, before) {
-            continue;
-        }
-        if is_begun || (matches!(text[at], b'i' | b'I') && word_length(rest, b"inv") > 0) {
-            let doubt = doubt_of_words(rest, before, has_brackets);
-            if doubt != Doubt::Nothing {
-                return (doubt, at);
-            }
-        }
-    }
-    (Doubt::Nothing, to)
-}
-
-/// What is said of a line that makes one doubt it, and where: in its label or after its moves; of a line without moves
-/// anywhere.
-fn doubt_said(text: &[u8], told: &TextLine) -> (Doubt, usize)
-    requires line { IsLine told.now.begin told.now }
-    requires fits { told.now.end ≤ length text.now }
-    ensures place { (told.now.begin ≤ result.1) × (result.1 ≤ told.now.end) }
-    ensures others { (number_of result.0 ≡ 4 → ⊥) × (number_of result.0 ≡ 5 → ⊥) }
-    ensures said { (number_of result.0 ≡ 1 → ⊥) × ((number_of result.0 ≡ 2 → ⊥) × ((number_of result.0 ≡ 6 → ⊥) × (number_of result.0 ≡ 11 → ⊥))) }
-{
-    if told.is_a(LineKind::Note) {
-        if is_mark(&text[told.begin..told.end]) {
-            return (Doubt::Insertion, told.begin);
-        }
-        return first_said(text, told.head_end, told.end, false);
-    }
-    let has_brackets = has_bracket(&text[told.moves..told.comment]);
-    let label = first_said(text, told.label_begin, told.label_end, has_brackets);
-    if label.0 != Doubt::Nothing {
-        return label;
-    }
-    first_said(text, told.comment, told.end, has_brackets)
-}
-
 /// Where the first or the last move of a line stands if it is a letter that may be of the words beside it, up to the slashes.
 fn letter_beside_words(text: &[u8], told: &TextLine, slashes: usize) -> Option<usize>
     requires line { IsLine told.now.begin told.now }
@@ -162,7 +102,7 @@ fn letter_beside_words(text: &[u8], told: &TextLine, slashes: usize) -> Option<u
 }
 
 /// What makes one doubt a step beside its letters, and where. Its comment begins at the slashes.
-fn doubt_of_step(text: &[u8], told: &TextLine, slashes: usize, has_solution: bool) -> (Doubt, usize)
+fn doubt_of_step(text: &[u8], told: &TextLine, slashes: usize, sheet: Sheet) -> (Doubt, usize)
     requires line { IsLine told.now.begin told.now }
     requires fits { told.now.end ≤ length text.now }
     requires slashes { (told.now.comment ≤ slashes) × (slashes ≤ told.now.end) }
@@ -176,10 +116,10 @@ fn doubt_of_step(text: &[u8], told: &TextLine, slashes: usize, has_solution: boo
         HasNone text.now Small told.now.moves told.now.comment }
     ensures unmarked { result.0 ≡ Nothing → HasNone text.now Marked (told.now.moves + 1) told.now.comment }
 {
-    if has_three_moves(&text[slashes..told.end]) {
+    if has_moves_aside(&text[slashes..told.end]) {
         return (Doubt::Comment, slashes);
     }
-    if !has_solution {
+    if !sheet.has_solution || sheet.is_out_of_order {
         return (Doubt::SeveralSolutions, told.moves);
     }
     if let Some(at) = times_said(&text[slashes..told.end]) {
@@ -207,6 +147,33 @@ fn doubt_of_step(text: &[u8], told: &TextLine, slashes: usize, has_solution: boo
     let small = small_alone(text, told.moves, told.comment);
     if small < told.comment {
         return (Doubt::SmallLetters, small);
+    }
+    (Doubt::Nothing, told.end)
+}
+
+/// What makes one doubt a line of a scramble beside its letters, and where. Its comment begins at the slashes.
+fn doubt_of_scramble(text: &[u8], told: &TextLine, slashes: usize, sheet: Sheet) -> (Doubt, usize)
+    requires line { IsLine told.now.begin told.now }
+    requires fits { told.now.end ≤ length text.now }
+    requires slashes { (told.now.comment ≤ slashes) × (slashes ≤ told.now.end) }
+    ensures place { (told.now.begin ≤ result.1) × (result.1 ≤ told.now.end) }
+    ensures others { (number_of result.0 ≡ 2 → ⊥) × ((number_of result.0 ≡ 4 → ⊥) × (number_of result.0 ≡ 11 → ⊥)) }
+    ensures nowhere { result.0 ≡ Nothing → result.1 ≡ told.now.end }
+    ensures small { result.0 ≡ SmallLetters → sees text.now Small result.1 ≡ true }
+    ensures no_small { result.0 ≡ Nothing → HasNone text.now Small told.now.moves told.now.comment }
+{
+    let small = first_seen(text, told.moves, told.comment, Sight::Small);
+    if small < told.comment {
+        return (Doubt::SmallLetters, small);
+    }
+    if sheet.is_strange || has_more_than_scramble(&text[told.moves..told.comment]) {
+        return (Doubt::AnotherScramble, told.moves);
+    }
+    if sheet.is_half_framed {
+        return (Doubt::Signs, told.moves);
+    }
+    if has_moves_aside(&text[slashes..told.end]) {
+        return (Doubt::Comment, slashes);
     }
     (Doubt::Nothing, told.end)
 }
@@ -250,7 +217,7 @@ fn doubt_of_moves(text: &[u8], told: &TextLine, line: &Line, sheet: Sheet) -> (D
     ensures place { (told.now.begin ≤ result.1) × (result.1 ≤ told.now.end) }
     ensures nowhere { result.0 ≡ Nothing → result.1 ≡ told.now.end }
     ensures another { number_of result.0 ≡ 1 → told.now.kind ≡ 2 }
-    ensures of_step { told.now.kind ≡ 2 → (number_of result.0 ≡ 2 → ⊥) × (number_of result.0 ≡ 6 → ⊥) }
+    ensures of_step { told.now.kind ≡ 2 → number_of result.0 ≡ 2 → ⊥ }
     ensures small { result.0 ≡ SmallLetters → sees text.now Small result.1 ≡ true }
     ensures no_capital { result.0 ≡ SmallLetters → (told.now.kind ≡ 2 → ⊥) →
         HasNone text.now Capital told.now.moves told.now.comment }
@@ -282,20 +249,17 @@ fn doubt_of_moves(text: &[u8], told: &TextLine, line: &Line, sheet: Sheet) -> (D
     if comma < told.comment {
         return (Doubt::Signs, comma);
     }
+    if let Some(at) = column_at(&text[told.moves..told.comment]) {
+        return (Doubt::Signs, told.moves + at);
+    }
     if may_be_misread(text, told) {
         return (Doubt::Signs, told.moves);
     }
-    if !told.is_a(LineKind::Scramble) {
-        return doubt_of_step(text, told, slashes, sheet.has_solution);
+    if told.is_a(LineKind::Scramble) {
+        doubt_of_scramble(text, told, slashes, sheet)
+    } else {
+        doubt_of_step(text, told, slashes, sheet)
     }
-    let small = first_seen(text, told.moves, told.comment, Sight::Small);
-    if small < told.comment {
-        return (Doubt::SmallLetters, small);
-    }
-    if sheet.is_strange || has_more_than_scramble(&text[told.moves..told.comment]) {
-        return (Doubt::AnotherScramble, told.moves);
-    }
-    (Doubt::Nothing, told.end)
 }
 
 /// What makes one doubt a line, and where: of its scramble, or of its solution if that can be told.
@@ -309,7 +273,7 @@ fn doubt_of(text: &[u8], told: &TextLine, line: &Line, sheet: Sheet) -> (Doubt, 
     ensures before { told.now.kind < 2 → number_of result.0 ≡ 0 }
     ensures another { number_of result.0 ≡ 1 → told.now.kind ≡ 2 }
     ensures several { number_of result.0 ≡ 2 → told.now.kind ≡ 3 }
-    ensures comment { number_of result.0 ≡ 6 → told.now.kind ≡ 3 }
+    ensures comment { number_of result.0 ≡ 6 → (2 ≤ told.now.kind) × (told.now.kind ≤ 3) }
     ensures small { result.0 ≡ SmallLetters → ((2 ≤ told.now.kind) × (told.now.kind ≤ 3)) × (sees text.now Small result.1 ≡ true) }
     ensures no_capital { result.0 ≡ SmallLetters → told.now.kind ≡ 3 → HasNone text.now Capital told.now.moves told.now.comment }
     ensures capital { result.0 ≡ Nothing → told.now.kind ≡ 3 → told.now.is_solution ≡ 1 →
@@ -331,8 +295,12 @@ fn doubt_of(text: &[u8], told: &TextLine, line: &Line, sheet: Sheet) -> (Doubt, 
     if (sheet.is_stray || is_called_scramble(text, told)) && is_uncommented_step(told) {
         return (Doubt::StepOrScramble, told.moves);
     }
+    let is_beside = sheet.has_solution && told.is_solution == 0;
+    if is_beside && told.is_a(LineKind::Note) {
+        return first_said(text, told.begin, told.end, Said::Beside);
+    }
     let is_after = told.is_a(LineKind::Step) || told.is_a(LineKind::Note);
-    if !is_after || (sheet.has_solution && told.is_solution == 0) {
+    if !is_after || is_beside {
         return (Doubt::Nothing, told.end);
     }
     let said = doubt_said(text, told);
@@ -345,18 +313,31 @@ fn doubt_of(text: &[u8], told: &TextLine, line: &Line, sheet: Sheet) -> (Doubt, 
     (Doubt::Nothing, told.end)
 }
 
+/// Whether a line says so, in its label or after its moves.
+fn is_said(text: &[u8], told: &TextLine, wanted: Wanted) -> bool
+    requires line { IsLine told.now.begin told.now }
+    requires fits { told.now.end ≤ length text.now }
+    ensures said { result ≡ true → HasWord is_plain_letter (words_of wanted) (label_in text.now told.now)
+        ⊎ HasWord is_plain_letter (words_of wanted) (comment_in text.now told.now) }
+    ensures all { are_spelled (words_of wanted) ≡ true → HasWord is_letter (words_of wanted) (label_in text.now told.now)
+        ⊎ HasWord is_letter (words_of wanted) (comment_in text.now told.now) → result ≡ true }
+{
+    says(&text[told.label_begin..told.label_end], wanted)
+        || says(&text[told.comment..told.end], wanted)
+}
+
 /// Whether what is said of a step has it on the inverse, and its moves have no brackets.
 fn is_inverse(text: &[u8], told: &TextLine) -> bool
     requires line { IsLine told.now.begin told.now }
     requires fits { told.now.end ≤ length text.now }
-    ensures { result ≡ true → told.now.kind ≡ 3 }
+    ensures step { result ≡ true → told.now.kind ≡ 3 }
+    ensures only { result ≡ true → HasNoSlashes (moves_in text.now told.now) → IsOnInverse text.now told.now }
+    ensures all { IsPlainlyOnInverse text.now told.now → result ≡ true }
 {
-    let label = &text[told.label_begin..told.label_end];
-    let comment = &text[told.comment..told.end];
-    told.is_a(LineKind::Step)
-        && (says(label, Wanted::Inverse) || says(comment, Wanted::Inverse))
-        && !(says(label, Wanted::Switch) || says(comment, Wanted::Switch))
-        && !has_bracket(&text[told.moves..told.comment])
+    if !told.is_a(LineKind::Step) || has_bracket(&text[told.moves..told.comment]) {
+        return false;
+    }
+    is_said(text, told, Wanted::Inverse) && !is_said(text, told, Wanted::Switch)
 }
 
 /// A line of a text with what makes one doubt it.
@@ -371,10 +352,11 @@ pub fn judged(text: &[u8], told: TextLine, line: &Line, sheet: Sheet) -> TextLin
     ensures attempt { result.attempt ≡ told.attempt }
     ensures doubt { IsDoubted text.now result }
     ensures placed { IsPlacedAs told result }
+    ensures sided { HasNoSlashes (moves_in text.now result) → IsSided text.now result }
 {
     let (doubt, at) = doubt_of(text, &told, line, sheet);
     TextLine {
-        is_inverse: u8::from(is_inverse(text, &told)),
+        is_inverse: flag(is_inverse(text, &told)),
         doubt: doubt.number(),
         doubt_at: at,
         ..told

@@ -1,7 +1,9 @@
 //! What stands in a text beside moves: numbers of moves, labels and comments.
 ghost use Rattle.std.specs.Prelude.{◌≡◌, ◌≤◌, ◌<◌, ◌+◌, ℕ, true, false, [], ◌∷◌, length, take, slice_index, slice_range, IfSome};
-ghost use Rattle.niss_text.specs.Signs.{IsSign, HasNoMoves, AreSigns, is_spacing, ends_line, opens};
+ghost use Rattle.niss_text.specs.Signs.{IsSign, HasNoMoves, AreSigns, is_digit, is_spacing, ends_line, opens};
 ghost use Rattle.niss_text.specs.Pieces.{EndsWithColon};
+ghost use Rattle.niss_text.specs.Doubts.{is_letter as is_plain_letter};
+ghost use Rattle.niss_text.specs.Said.{HasNoBracket, HasNoSlashes};
 ghost use Rattle.niss_text.specs.Kept.{AreTurns, IsTurnUpTo, HasNoLetters, HasOnlyWords, IsCount, IsTitleEnd, words_of_count};
 
 use crate::sign::{
@@ -132,6 +134,7 @@ fn ends_line(byte: u8) -> bool
 /// Whether a text begins with a comment.
 pub fn begins_comment(text: &[u8]) -> bool
     ensures first { result ≡ true → slice_index text.now 0 ≡ 47 }
+    ensures second { result ≡ true → slice_index text.now 1 ≡ 47 }
     ensures both { slice_index text.now 0 ≡ 47 → slice_index text.now 1 ≡ 47 → result ≡ true }
 {
     text.len() > 1 && text[0] == b'/' && text[1] == b'/'
@@ -188,8 +191,8 @@ fn is_like_move(word: &[u8]) -> bool
     if word.is_empty() || !is_letter(first_kind(word)) {
         return false;
     }
-    let letter = &word[1..];
-    let wide = &letter[word_length(letter, b"w")..];
+    let letter = from_place(word, 1);
+    let wide = from_place(letter, word_length(letter, b"w"));
     wide.is_empty() || (wide.len() == 1 && wide[0] == b'2')
 }
 
@@ -221,17 +224,29 @@ fn has_other_side(words: &[u8]) -> bool {
     false
 }
 
+/// Whether a text begins with an opened bracket that isn't of a number of moves.
+fn opens_moves(text: &[u8]) -> bool
+    requires { 0 < length text.now }
+    ensures none { result ≡ false → slice_index text.now 0 ≡ 40 → is_digit (slice_index text.now 1) ≡ true }
+    ensures some { result ≡ true → slice_index text.now 0 ≡ 40 }
+{
+    text[0] == b'(' && count_length(text) == 0
+}
+
 /// Whether moves of a line stand in brackets, before its comment.
-pub fn has_bracket(line: &[u8]) -> bool {
+pub fn has_bracket(line: &[u8]) -> bool
+    ensures none { result ≡ false → HasNoSlashes line.now → HasNoBracket line.now }
+    ensures some { ((k : ℕ) → slice_index line.now k ≡ 40 → ⊥) → result ≡ false }
+{
     let mut rest = line;
     while !rest.is_empty() {
         if begins_comment(rest) {
             return false;
         }
-        if rest[0] == b'(' && count_length(rest) == 0 {
+        if opens_moves(rest) {
             return true;
         }
-        rest = &rest[1..];
+        rest = from_place(rest, 1);
     }
     false
 }
@@ -250,6 +265,7 @@ fn words_before_colon(line: &[u8]) -> (usize, usize)
     ensures order { result.0 ≤ result.1 }
     ensures fits { result.1 ≤ length line.now }
     ensures some { 0 < result.1 → 0 < result.0 }
+    ensures words { 0 < result.1 → is_plain_letter (slice_index line.now result.0) ≡ false }
     ensures end { IsTitleEnd (slice_range line.now result.0 result.1) }
     ensures colon { 0 < result.1 → (AreTurns (take result.0 line.now) → ⊥) → EndsWithColon (take result.1 line.now) }
 {
@@ -276,6 +292,7 @@ pub fn label_of(line: &[u8]) -> Option<Label>
     ensures some { IfSome result (λ label. 0 < label.words) }
     ensures end { IfSome result (λ label. IsTitleEnd (slice_range line.now label.words label.length)) }
     ensures colon { IfSome result (λ label. EndsWithColon (take label.length line.now)) }
+    ensures words { IfSome result (λ label. is_plain_letter (slice_index line.now label.words) ≡ false) }
 {
     let (words, length) = words_before_colon(line);
     if length == 0 || are_like_moves(&line[..words]) {

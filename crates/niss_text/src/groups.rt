@@ -1,9 +1,11 @@
 //! The groups of lines after a scramble: those directly under it, and the blocks after blank lines.
-ghost use Rattle.std.specs.Prelude.{◌≤◌, ◌<◌};
+ghost use Rattle.std.specs.Prelude.{◌≡◌, ◌≤◌, ◌<◌, true, false};
+ghost use Rattle.niss_text.specs.Groups.{IsFresh, IsEndedBy, Goes};
 
-use crate::body::is_whole_move_before;
+use crate::body::{are_long, is_whole_move_before};
 use crate::line::{Line, Numbers, first_line, whole_length};
 use crate::sign::trimmed;
+use crate::step_order::{Order, is_next};
 use crate::words::{Wanted, says};
 
 /// The group of the last line, and what is seen of it.
@@ -20,7 +22,9 @@ pub struct Group {
 
 impl Group {
     /// Before the first line after a scramble.
-    pub fn first() -> Group {
+    pub fn first() -> Group
+        ensures { IsFresh result }
+    {
         Group {
             number: 0,
             has_moves: false,
@@ -32,14 +36,19 @@ impl Group {
 
     /// Whether a line begins a group: after one that is ended, with the label of a solution after moves, or with moves
     /// that are told after a solution that isn't.
-    fn is_ended_by(&self, line: &Line) -> bool {
+    fn is_ended_by(&self, line: &Line) -> bool
+        ensures ended { result ≡ true → IsEndedBy self.now line.now }
+        ensures open { result ≡ false → self.now.is_ended ≡ false }
+    {
         self.is_ended
             || (self.has_moves && line.is_solution)
             || (self.is_line && line.is_told() && line.is_moves)
     }
 
     /// After one more line. A blank line ends a group, but one of a label alone, which belongs to what follows it.
-    pub fn after(self, line: &Line) -> Group {
+    pub fn after(self, line: &Line) -> Group
+        ensures { self.number < usize.MAX → Goes self result line.now }
+    {
         let mut group = self;
         if line.is_blank {
             group.is_ended = self.is_ended || self.has_moves || !self.has_label;
@@ -73,6 +82,24 @@ fn begin_with(moves: &[u8], others: &[u8]) -> bool {
         rest = &rest[1..];
     }
     is_whole_move_before(rest)
+}
+
+/// The moves of the first line of a text that has any.
+fn first_moves(text: &[u8], numbers: Numbers) -> &[u8] {
+    let mut rest = text;
+    while !rest.is_empty() {
+        let line = first_line(rest, numbers);
+        if line.is_moves {
+            return &rest[line.moves..line.comment];
+        }
+        rest = &rest[whole_length(rest)..];
+    }
+    &[]
+}
+
+/// Whether moves are as long as a scramble, and stand once more in front of all others of a text.
+pub fn is_same(moves: &[u8], text: &[u8], numbers: Numbers) -> bool {
+    are_long(0, moves.len()) && begin_with(first_moves(text, numbers), moves)
 }
 
 /// Whether the last moves of some lines after a scramble are the whole solution: they begin with those of the first line,
@@ -112,6 +139,7 @@ pub struct Solutions {
     last_told: usize,
     is_final: bool,
     stray: Stray,
+    order: Order,
 }
 
 /// A line after a scramble that may be another one: moves under it are fewer, or something is said of them, or the words
@@ -159,16 +187,20 @@ impl Stray {
 }
 
 impl Solutions {
-    /// After the lines of a text that follow a scramble.
-    pub fn seen_in(text: &[u8], numbers: Numbers) -> Solutions {
+    /// After the lines of a text that follow a scramble, above which a title stands or none.
+    pub fn seen_in(text: &[u8], title: &[u8], numbers: Numbers) -> Solutions {
         let mut rest = text;
         let mut seen = Solutions::none();
         while !rest.is_empty() {
             let line = first_line(rest, numbers);
             let length = whole_length(rest);
-            seen = seen.after(&line, text.len() - rest.len());
-            if !(line.is_moves || line.is_blank) {
-                seen.stray.is_called = says(&rest[..length], Wanted::Scramble);
+            let at = text.len() - rest.len();
+            seen = seen.after(&line, at);
+            if line.is_moves {
+                seen.order = seen.order.after(rest, &line, at, seen.group.number);
+            } else if !line.is_blank {
+                let words = &rest[..length];
+                seen.stray.is_called = says(words, Wanted::Scramble) || is_next(words, title);
             }
             rest = &rest[length..];
         }
@@ -191,6 +223,7 @@ impl Solutions {
             last_told: 0,
             is_final: false,
             stray: Stray::nothing(),
+            order: Order::nothing(),
         }
     }
 
@@ -225,6 +258,14 @@ impl Solutions {
             return None;
         }
         self.stray.found.map(|at| begin.saturating_add(at))
+    }
+
+    /// Where a line of the solution stands that comes before one above it, if these lines begin there.
+    pub fn out_of_order(&self, begin: usize) -> Option<usize> {
+        if self.group() != Some(self.order.group) {
+            return None;
+        }
+        self.order.found.map(|at| begin.saturating_add(at))
     }
 
     /// With moves in the group, of which something is said or not.

@@ -1,10 +1,31 @@
 //! What stands in front of a line before its label: its number, and what tells a scramble from others.
-ghost use Rattle.std.specs.Prelude.{◌≡◌, ◌≤◌, ◌-◌, length, take, drop};
-ghost use Rattle.niss_text.specs.Kept.{BeginNoMoves, HasOnlyWords, words_of_head};
+ghost use Rattle.std.specs.Prelude.{◌≡◌, ◌≤◌, ◌<◌, ◌-◌, nat_lt, true, false, length, take, drop, map, slice_index};
+ghost use Rattle.std.specs.List.{Contains};
+ghost use Rattle.niss_text.specs.Kept.{BeginNoMoves, HasOnlyWords, small, words_of_head};
+ghost use Rattle.niss_text.specs.Doubts.{is_capital};
+ghost use Rattle.niss_text.specs.Said.{is_a_head};
+ghost use Rattle.niss_text.specs.declared.line.Head.TheVariants.{None as NoHead};
 
-use crate::forms::{is_parted, mark_length, sign_length};
-use crate::sign::{Kind, digits_length, first_kind, from_place, trimmed};
-use crate::words::{head_word_length, word_length};
+use crate::forms::{blanks, is_parted, mark_length, sign_length};
+use crate::line::{Head, Numbers};
+use crate::sign::{Kind, digits_length, first_kind, from_place, is_digit_byte, trimmed};
+use crate::words::word_length;
+
+/// How many bytes the word has that stands before each of several scrambles, if a text begins with one; else 0.
+fn head_word_length(text: &[u8]) -> usize
+    ensures fits { result ≤ length text.now }
+    ensures word { 0 < result → Contains words_of_head (map small (take result text.now)) }
+{
+    if text.is_empty() {
+        return 0;
+    }
+    match text[0] {
+        b's' | b'S' => word_length(text, b"scramble"),
+        b'a' | b'A' => word_length(text, b"attempt"),
+        b'e' | b'E' => word_length(text, b"extra"),
+        _ => 0,
+    }
+}
 
 /// How many bytes a sign has that may end a number in front of a text; else 0.
 fn point_length(text: &[u8]) -> usize
@@ -177,5 +198,42 @@ pub fn head_length(line: &[u8]) -> usize
         line.len() - end.len()
     } else {
         0
+    }
+}
+
+/// Whether what tells a scramble from others may begin with a byte.
+fn begins_head(byte: u8) -> bool
+    ensures { is_capital byte ≡ true → result ≡ false }
+{
+    matches!(byte, b'#' | b'(' | b's' | b'S' | b'a' | b'A' | b'e' | b'E') || is_digit_byte(byte)
+}
+
+/// What tells a scramble from others in front of a line, and how many bytes it has.
+#[inline(never)]
+pub fn head_of(line: &[u8], numbers: Numbers) -> (Head, usize)
+    ensures fits { result.1 ≤ length line.now }
+    ensures words { HasOnlyWords words_of_head (take result.1 line.now) }
+    ensures none { is_capital (slice_index line.now 0) ≡ true → result.0 ≡ NoHead }
+    ensures some { is_a_head result.0 ≡ nat_lt 0 result.1 }
+{
+    if line.is_empty() || !begins_head(line[0]) {
+        return (Head::None, 0);
+    }
+    let number = number_length(line);
+    let numbered = from_place(line, number);
+    let blank = blanks(numbered);
+    let word = head_length(from_place(numbered, blank));
+    if word > 0 {
+        return (Head::Word, number + blank + word);
+    }
+    if numbers == Numbers::OfLines {
+        return (Head::None, 0);
+    }
+    if number > 0 {
+        return (Head::Number, number);
+    }
+    match listed_length(line, numbers == Numbers::WithExtras) {
+        0 => (Head::None, 0),
+        listed => (Head::Number, listed),
     }
 }

@@ -1,8 +1,8 @@
 //! A text that has only solutions, of scrambles that are known: which part of it is of which scramble, and what its
 //! lines are after that scramble.
-ghost use Rattle.std.specs.Prelude.{◌≡◌, ◌≤◌, ◌<◌, ◌+◌, ◌⊎◌, ◌||◌, ℕ, false, MatchOption, is_some, length, drop, get_or, set, take};
-ghost use Rattle.niss_text.specs.Known.{AreKnown, AreApart, AreAssigned, AreCounted, AreNamedAs, AreOf, AreSaid, IsCountedAlone, IsName, IsNumbered, HaveHeads, HaveLines, HaveNames, have_numbers, scramble_with};
-ghost use Rattle.niss_text.specs.Lines.{Counts, Takes};
+ghost use Rattle.std.specs.Prelude.{◌≡◌, ◌≤◌, ◌<◌, ◌+◌, ◌⊎◌, ◌||◌, ℕ, List, false, MatchOption, is_some, length, drop, get_or, set, take};
+ghost use Rattle.niss_text.specs.Known.{AreKnown, AreApart, AreAssigned, AreCounted, AreNamedAs, AreOf, AreSaid, IsCountedAlone, IsName, IsNumbered, HasBody, HaveLines, HaveNames, PartsTake, have_numbers, scramble_with};
+ghost use Rattle.niss_text.specs.Lines.{Counts, Covers, Takes, TellsPlain};
 
 use crate::attempts::{Progress, put_attempts, put_solution};
 use crate::parts::{Part, first_part, has_head};
@@ -80,7 +80,7 @@ impl Reading {
     }
 
     /// With one more part.
-    #[tactic(auto, using(crate::proofs::LineLemmas::takes_further, crate::proofs::KnownLemmas::lines_next))]
+    #[tactic(auto, using(crate::proofs::KnownLemmas::lines_next))]
     fn with(
         self,
         text: &[u8],
@@ -93,8 +93,12 @@ impl Reading {
         ensures at { result.read.at ≤ length text.now }
         ensures one { result.parts ≤ self.parts + 1 }
         ensures more { (self.parts ≤ result.parts) × (self.read.lines ≤ result.read.lines) }
-        ensures takes { Takes text.now 0 (take self.read.lines lines.old) self.read.at → result.read.lines ≤ length lines.new →
-            Takes text.now 0 (take result.read.lines lines.new) result.read.at }
+        ensures takes { (most : ℕ) → HasBody text.now self.read.at most part.now → Takes text.now 0 (take self.read.lines lines.old) self.read.at →
+            result.read.lines ≤ length lines.new → Takes text.now 0 (take result.read.lines lines.new) result.read.at }
+        ensures told { (most : ℕ) → HasBody text.now self.read.at most part.now → HaveLines 0 (take self.parts parts.old) self.read.lines →
+            PartsTake text.now lines.old 0 (take self.parts parts.old) self.read.at → result.parts ≤ length parts.new → result.read.lines ≤ length lines.new →
+            PartsTake text.now lines.new 0 (take result.parts parts.new) result.read.at }
+        ensures ends { (most : ℕ) → HasBody text.now self.read.at most part.now → (result.read.at ≡ part.now.end) × (result.read.lines ≤ self.read.lines + most) }
         ensures lines { HaveLines 0 (take self.parts parts.old) self.read.lines → result.parts ≤ length parts.new →
             HaveLines 0 (take result.parts parts.new) result.read.lines }
         ensures behind_parts { drop result.parts parts.new ≡ drop result.parts parts.old }
@@ -150,10 +154,13 @@ fn read_parts(
     requires { count ≤ length lines.old }
     ensures at { result.read.at ≤ length text.now }
     ensures few { result.parts ≤ count }
-    ensures takes { result.read.lines ≤ length lines.new → Takes text.now 0 (take result.read.lines lines.new) result.read.at }
+    ensures takes { Covers text.now 0 (take count lines.old) (length text.now) → Takes text.now 0 (take result.read.lines lines.new) (length text.now) }
+    ensures told { Covers text.now 0 (take count lines.old) (length text.now) → result.parts ≤ length parts.new →
+        PartsTake text.now lines.new 0 (take result.parts parts.new) (length text.now) }
+    ensures few_lines { Covers text.now 0 (take count lines.old) (length text.now) → result.read.lines ≤ count }
     ensures lines { result.parts ≤ length parts.new → HaveLines 0 (take result.parts parts.new) result.read.lines }
     ensures says { result.parts ≤ length parts.new → AreSaid text.now (take result.parts parts.new) }
-    ensures names { HaveHeads text.now (take count lines.old) → result.read.lines ≤ length lines.new → result.parts ≤ length parts.new →
+    ensures names { Covers text.now 0 (take count lines.old) (length text.now) → result.parts ≤ length parts.new →
         HaveNames text.now (take result.parts parts.new) }
     ensures numbered { result.parts ≤ length parts.new → result.has_numbers ≡ have_numbers text.now (take result.parts parts.new) }
     ensures behind_parts { drop result.parts parts.new ≡ drop result.parts parts.old }
@@ -203,6 +210,7 @@ fn scramble_of(part: &KnownPart, place: Option<usize>, counts: &[u64]) -> usize
 fn assign(parts: &mut [KnownPart], is_in_order: bool, counts: &mut [u64])
     ensures known { AreKnown (length counts.old) parts.new }
     ensures lines { (to : ℕ) → HaveLines 0 parts.old to → HaveLines 0 parts.new to }
+    ensures told { (text : List ℕ) (told : List TextLine) (to : ℕ) → PartsTake text told 0 parts.old to → PartsTake text told 0 parts.new to }
     ensures apart { AreApart parts.new }
     ensures named { AreNamedAs parts.old parts.new }
     ensures own { (none : KnownPart) → AreAssigned is_in_order (length counts.old) (λ k. (get_or parts.old k none).scramble) parts.new }
@@ -219,9 +227,9 @@ fn assign(parts: &mut [KnownPart], is_in_order: bool, counts: &mut [u64])
 /// Tells of the parts of a text that has only solutions, of as many scrambles that are known as there are counts, and
 /// of each line of these what it is after a scramble, in as many attempts as a part has: the first one is the solution.
 /// A part is of the scramble of its number, if no other one has that; of as many parts as scrambles without any number
-/// each is of the scramble in its place. As many lines and parts as the text has bytes are room enough. What stood in the
-/// counts says nothing, nor what stands there then.
-#[tactic(auto, using(crate::proofs::LineLemmas::takes_further, crate::proofs::LineLemmas::counts_none))]
+/// each is of the scramble in its place. What isn't told has no moves. As many lines and parts as the text has lines are
+/// room enough. What stood in the counts says nothing, nor what stands there then.
+#[tactic(auto, using(crate::proofs::LineLemmas::counts_none))]
 pub fn known_lines(
     text: &[u8],
     lines: &mut [TextLine],
@@ -231,10 +239,13 @@ pub fn known_lines(
     ensures few { (result.lines ≤ length text.now) × (result.parts ≤ length text.now) }
     ensures fits { result.status ≡ 0 → (result.lines ≤ length lines.old) × (result.parts ≤ length parts.old) }
     ensures room { length text.now ≤ length lines.old → length text.now ≤ length parts.old → result.status ≡ 0 }
+    ensures enough { (count : ℕ) → Counts text.now 0 count (length text.now) → count ≤ length lines.old → count ≤ length parts.old → result.status ≡ 0 }
     ensures told { (result.status ≡ 0) ⊎ (result.status ≡ 4) }
     ensures counts { result.status ≡ 4 → Counts text.now 0 result.lines (length text.now) }
     ensures none { result.status ≡ 4 → length lines.old < result.lines → result.parts ≡ 0 }
     ensures takes { result.status ≡ 0 → Takes text.now 0 (take result.lines lines.new) (length text.now) }
+    ensures plain { result.status ≡ 0 → TellsPlain text.now (take result.lines lines.new) }
+    ensures parts { result.status ≡ 0 → PartsTake text.now lines.new 0 (take result.parts parts.new) (length text.now) }
     ensures known { result.status ≡ 0 → AreKnown (length counts.old) (take result.parts parts.new) }
     ensures apart { result.status ≡ 0 → AreApart (take result.parts parts.new) }
     ensures names { result.status ≡ 0 → HaveNames text.now (take result.parts parts.new) }

@@ -1,14 +1,14 @@
 //! A line of a text: where its parts are, and what is seen of it.
-ghost use Rattle.std.specs.Prelude.{◌≡◌, ◌≤◌, ◌<◌, ◌+◌, ◌⊎◌, ℕ, true, false, length, take, drop, slice_index, slice_range};
+ghost use Rattle.std.specs.Prelude.{◌≡◌, ◌≤◌, ◌<◌, ◌+◌, ◌⊎◌, nat_lt, ℕ, true, false, length, take, drop, slice_index, slice_range};
 ghost use Rattle.niss_text.specs.Signs.{ends_line, HasNoMoves};
-ghost use Rattle.niss_text.specs.Kept.{BeginNoMoves, HasOnlyWords, IsTitleEnd, LosesNone, ArePlain, ArePlainBefore, begins_with_move, words_of_head};
-ghost use Rattle.niss_text.specs.Doubts.{is_capital};
-ghost use Rattle.niss_text.specs.declared.line.Head.TheVariants.{None as NoHead};
+ghost use Rattle.niss_text.specs.Kept.{BeginNoMoves, IsTitleEnd, LosesNone, ArePlain, ArePlainBefore, begins_with_move};
+ghost use Rattle.niss_text.specs.Doubts.{is_letter as is_plain_letter};
+ghost use Rattle.niss_text.specs.Said.{HasNoSlashes, HasWord, IsLabelled, is_a_head, words_of_solution};
 ghost use Rattle.niss_text.specs.Lines.{IsUnbroken, IsEnd, end_of, end_size};
 
-use crate::body::{has_frame, is_whole_scramble};
+use crate::body::{are_long, has_frame, is_whole_scramble};
 use crate::forms::{blanks, line_length, margin};
-use crate::heads::{head_length, listed_length, number_length};
+use crate::heads::head_of;
 use crate::line_parts::parts_of;
 use crate::sign::{Class, behind, from_place, is_digit_byte};
 use crate::word::are_plain_moves;
@@ -76,17 +76,6 @@ pub struct Line {
     ghost slashes_in: { slashes ≤ length },
 }
 
-/// How many bytes a scramble has at least, on one line: those of fifteen moves.
-const SCRAMBLE_BYTES: usize = 40;
-
-/// Whether moves from one place of a line to another have as many bytes as a scramble, or more.
-pub fn are_long(begin: usize, end: usize) -> bool
-    requires { begin ≤ end }
-    ensures { (result ≡ true → begin + 40 ≤ end) × (begin + 40 ≤ end → result ≡ true) }
-{
-    end - begin >= SCRAMBLE_BYTES
-}
-
 impl Line {
     /// A line of that many bytes, which after its head, if it has one, has nothing but moves from there on, or none at its
     /// end.
@@ -97,6 +86,8 @@ impl Line {
         ensures head { result.head ≡ head.1 }
         ensures label { (result.label_begin ≡ moves) × ((result.label_end ≡ moves) × (result.moves ≡ moves)) }
         ensures comment { result.comment ≡ length }
+        ensures kind { result.head_kind ≡ head.0 }
+        ensures unsaid { result.is_solution ≡ false }
         ensures bare { (result.is_blank ≡ true) ⊎ (result.is_head_alone ≡ true) → moves ≡ length }
         ensures moves { moves < length → result.is_moves ≡ true }
     {
@@ -156,42 +147,6 @@ pub fn is_blank(line: &[u8]) -> bool {
     margin(line) == line.len()
 }
 
-/// Whether what tells a scramble from others may begin with a byte.
-fn begins_head(byte: u8) -> bool
-    ensures { is_capital byte ≡ true → result ≡ false }
-{
-    matches!(byte, b'#' | b'(' | b's' | b'S' | b'a' | b'A' | b'e' | b'E') || is_digit_byte(byte)
-}
-
-/// What tells a scramble from others in front of a line, and how many bytes it has.
-#[inline(never)]
-fn head_of(line: &[u8], numbers: Numbers) -> (Head, usize)
-    ensures fits { result.1 ≤ length line.now }
-    ensures words { HasOnlyWords words_of_head (take result.1 line.now) }
-    ensures none { is_capital (slice_index line.now 0) ≡ true → result.0 ≡ NoHead }
-{
-    if line.is_empty() || !begins_head(line[0]) {
-        return (Head::None, 0);
-    }
-    let number = number_length(line);
-    let numbered = from_place(line, number);
-    let blank = blanks(numbered);
-    let word = head_length(from_place(numbered, blank));
-    if word > 0 {
-        return (Head::Word, number + blank + word);
-    }
-    if numbers == Numbers::OfLines {
-        return (Head::None, 0);
-    }
-    if number > 0 {
-        return (Head::Number, number);
-    }
-    match listed_length(line, numbers == Numbers::WithExtras) {
-        0 => (Head::None, 0),
-        listed => (Head::Number, listed),
-    }
-}
-
 /// What stands beside the moves of a line that has this label, and other words or not.
 fn seen_beside(label: &[u8], has_words: bool) -> Beside {
     if has_words || !behind(label, Class::NoLetters).is_empty() {
@@ -222,6 +177,10 @@ fn line_behind(line: &[u8], head_kind: Head, head: usize) -> Line
     ensures title { IsTitleEnd (slice_range line.now result.label_end result.moves) }
     ensures filled { result.is_blank ≡ false }
     ensures comment { begins_with_move (drop result.comment line.now) ≡ false }
+    ensures uncommented { HasNoSlashes (slice_range line.now result.moves result.comment) }
+    ensures labelled { IsLabelled line.now (drop result.label_begin line.now) result.label_begin result.moves }
+    ensures said { result.is_solution ≡ true →
+        HasWord is_plain_letter words_of_solution (slice_range line.now result.label_begin result.label_end) }
     ensures alone { result.is_head_alone ≡ true → HasNoMoves (drop head line.now) }
     ensures commented { (count : ℕ) → head ≡ 0 → ArePlainBefore line.now count →
         (result.is_moves ≡ true) × ((result.moves ≡ 0) × (result.comment ≡ count)) }
@@ -259,10 +218,15 @@ fn headed_line(line: &[u8], kind: Head, head: usize) -> Line
     requires { head ≤ length line.now }
     ensures length { result.length ≡ length line.now }
     ensures head { result.head ≡ head }
+    ensures kind { result.head_kind ≡ kind }
     ensures margin { BeginNoMoves (slice_range line.now head result.label_begin) }
     ensures title { IsTitleEnd (slice_range line.now result.label_end result.moves) }
     ensures blank { result.is_blank ≡ true → HasNoMoves (drop head line.now) }
     ensures comment { begins_with_move (drop result.comment line.now) ≡ false }
+    ensures uncommented { HasNoSlashes (slice_range line.now result.moves result.comment) }
+    ensures labelled { IsLabelled line.now (drop result.label_begin line.now) result.label_begin result.moves }
+    ensures said { result.is_solution ≡ true →
+        HasWord is_plain_letter words_of_solution (slice_range line.now result.label_begin result.label_end) }
     ensures alone { result.is_head_alone ≡ true → HasNoMoves (drop head line.now) }
 {
     let rest = from_place(line, head);
@@ -288,10 +252,15 @@ fn is_bare(line: &[u8]) -> bool
 #[inline(never)]
 pub fn line_of(line: &[u8], numbers: Numbers) -> Line
     ensures length { result.length ≡ length line.now }
+    ensures headed { is_a_head result.head_kind ≡ nat_lt 0 result.head }
     ensures kept { LosesNone line.now 0 result.head result.label_begin result.label_end result.moves }
     ensures blank { result.is_blank ≡ true → HasNoMoves (drop result.head line.now) }
     ensures alone { result.is_head_alone ≡ true → HasNoMoves (drop result.head line.now) }
     ensures comment { begins_with_move (drop result.comment line.now) ≡ false }
+    ensures uncommented { HasNoSlashes (slice_range line.now result.moves result.comment) }
+    ensures labelled { IsLabelled line.now (drop result.label_begin line.now) result.label_begin result.moves }
+    ensures said { result.is_solution ≡ true →
+        HasWord is_plain_letter words_of_solution (slice_range line.now result.label_begin result.label_end) }
     ensures plain { ArePlain line.now → (result.is_moves ≡ true) × ((result.moves ≡ 0) × (result.comment ≡ result.length)) }
     ensures commented { (count : ℕ) → ArePlainBefore line.now count →
         (result.is_moves ≡ true) × ((result.moves ≡ 0) × (result.comment ≡ count)) }
@@ -336,10 +305,16 @@ pub fn cut_line(text: &[u8], numbers: Numbers) -> (Line, usize)
     ensures whole { IsUnbroken text.now 0 result.0.length }
     ensures ends { result.1 ≡ result.0.length + end_size text.now result.0.length }
     ensures ended { IsEnd text.now result.0.length }
+    ensures headed { is_a_head result.0.head_kind ≡ nat_lt 0 result.0.head }
     ensures kept { LosesNone (take result.0.length text.now) 0 result.0.head result.0.label_begin result.0.label_end result.0.moves }
     ensures blank { result.0.is_blank ≡ true → HasNoMoves (drop result.0.head (take result.0.length text.now)) }
     ensures alone { result.0.is_head_alone ≡ true → HasNoMoves (drop result.0.head (take result.0.length text.now)) }
     ensures comment { begins_with_move (drop result.0.comment (take result.0.length text.now)) ≡ false }
+    ensures uncommented { HasNoSlashes (slice_range (take result.0.length text.now) result.0.moves result.0.comment) }
+    ensures labelled { IsLabelled (take result.0.length text.now) (drop result.0.label_begin (take result.0.length text.now))
+        result.0.label_begin result.0.moves }
+    ensures said { result.0.is_solution ≡ true →
+        HasWord is_plain_letter words_of_solution (slice_range (take result.0.length text.now) result.0.label_begin result.0.label_end) }
     ensures plain { ArePlain (take result.0.length text.now) →
         (result.0.is_moves ≡ true) × ((result.0.moves ≡ 0) × (result.0.comment ≡ result.0.length)) }
     ensures commented { (count : ℕ) → ArePlainBefore (take result.0.length text.now) count →
@@ -375,13 +350,6 @@ pub fn first_head(text: &[u8], numbers: Numbers) -> Head {
 /// Whether the first line of a text may begin an attempt: by a head, or as a whole scramble.
 pub fn may_begin(text: &[u8], numbers: Numbers) -> bool {
     first_head(text, numbers) != Head::None || has_frame(&text[..line_length(text)])
-}
-
-/// Whether a line, which is the first one of a text, names solutions and has no moves.
-pub fn names_solutions(text: &[u8], line: &Line) -> bool
-    requires { line.now.length ≤ length text.now }
-{
-    !line.is_moves && says(&text[..line.length], Wanted::Solutions)
 }
 
 /// The first line of a text.

@@ -1,6 +1,9 @@
 //! Where the parts of a line are after its head: its label, its moves, and what is said after them.
-ghost use Rattle.std.specs.Prelude.{◌≡◌, ◌≤◌, ℕ, true, false, length, drop, take, slice_range};
+ghost use Rattle.std.specs.Prelude.{◌≡◌, ◌≤◌, ◌<◌, ℕ, true, false, length, drop, take, slice_index, slice_range};
 ghost use Rattle.niss_text.specs.Kept.{ArePlain, ArePlainBefore, BeginNoMoves, IsTitleEnd, begins_with_move};
+ghost use Rattle.niss_text.specs.Doubts.{is_letter as is_plain_letter};
+ghost use Rattle.niss_text.specs.Said.{HasNoSlashes, IsLabelled};
+ghost use Rattle.niss_text.specs.Pieces.{EndsWithColon};
 
 use crate::forms::{blanks, comment_at, label_of, margin};
 use crate::heads::number_length;
@@ -45,6 +48,8 @@ fn title_of(line: &[u8]) -> (usize, usize)
     ensures none { result.0 ≡ 0 → result.1 ≡ 0 }
     ensures end { IsTitleEnd (slice_range line.now result.0 result.1) }
     ensures plain { ArePlain line.now → result.1 ≡ 0 }
+    ensures words { 0 < result.0 → is_plain_letter (slice_index line.now result.0) ≡ false }
+    ensures colon { 0 < result.0 → EndsWithColon (take result.1 line.now) }
 {
     match label_of(line) {
         Some(label) => (label.words, label.length),
@@ -60,6 +65,9 @@ pub fn parts_of(line: &[u8], head: usize) -> Parts
     ensures margin { BeginNoMoves (slice_range line.now head result.label_begin) }
     ensures title { IsTitleEnd (slice_range line.now result.label_end result.moves) }
     ensures comment { begins_with_move (drop result.comment line.now) ≡ false }
+    ensures uncommented { HasNoSlashes (slice_range line.now result.moves result.comment) }
+    ensures entitled { result.title_end < result.label_end → is_plain_letter (slice_index line.now result.title_end) ≡ false }
+    ensures labelled { IsLabelled line.now (drop result.label_begin line.now) result.label_begin result.moves }
     ensures plain { (count : ℕ) → head ≡ 0 → ArePlainBefore line.now count →
         (result.is_moves ≡ true) × ((result.moves ≡ 0) × (result.comment ≡ count)) }
 {

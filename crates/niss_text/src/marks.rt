@@ -2,9 +2,11 @@
 //! that may be of the words after moves.
 ghost use Rattle.std.specs.Prelude.{◌≤◌, ◌<◌, length, IfSome};
 
+use crate::body::has_turn;
 use crate::sights::is_letter;
 use crate::sign::{Class, is_digit_byte, length_of, trimmed};
-use crate::words::{is_end_name, is_step_name, names_place};
+use crate::word::has_three_moves;
+use crate::words::{has_axis, is_end_name, is_step_name, names_place};
 
 /// Whether a text begins with a number of times, such as `x2` or `2x`, and not with a block, such as `2x2x3`.
 fn begins_times(text: &[u8]) -> bool {
@@ -30,6 +32,29 @@ pub fn times_said(comment: &[u8]) -> Option<usize>
         return None;
     }
     Some(comment.len() - words.len())
+}
+
+/// Whether a comment, which begins with two slashes if there is one, is nothing but turns of the cube: it may be held so.
+fn is_hold(comment: &[u8]) -> bool {
+    let words = trimmed(&comment[comment.len().min(2)..]);
+    words.len() < 16
+        && begins_hold(words)
+        && words.iter().all(|byte| {
+            matches!(
+                *byte,
+                b'x' | b'y' | b'z' | b'2' | b'3' | b'\'' | b' ' | b'(' | b')'
+            )
+        })
+}
+
+/// Whether a text begins with a turn of the cube, or with a bracket.
+fn begins_hold(text: &[u8]) -> bool {
+    !text.is_empty() && matches!(text[0], b'x' | b'y' | b'z' | b'(')
+}
+
+/// Whether a comment has moves that may belong to those before it: three or more, or turns of the cube by themselves.
+pub fn has_moves_aside(comment: &[u8]) -> bool {
+    has_three_moves(comment) || is_hold(comment)
 }
 
 /// Where the last word of some moves begins, as blanks part them.
@@ -113,15 +138,23 @@ fn word_at_end(text: &[u8]) -> &[u8] {
     &word[..length_of(word, Class::NoBlanks)]
 }
 
-/// Whether moves begin with a letter by itself that may be of the words before them, such as `square F`.
+/// Whether a text ends with a blank.
+fn ends_with_blank(text: &[u8]) -> bool {
+    !text.is_empty() && text[text.len() - 1] == b' '
+}
+
+/// Whether moves begin with a letter by itself that may be of the words before them, such as `square F`, or `EO F`.
 pub fn begin_with_letter_of_words(moves: &[u8], words: &[u8]) -> bool {
     let first = length_of(moves, Class::NoBlanks);
     if !is_letter_alone(&moves[..first]) {
         return false;
     }
     let word = word_at_end(words);
+    if letters_length(word) != word.len() {
+        return false;
+    }
     // axes have two letters
-    word.len() > 2 && (letters_length(word) == word.len() && may_have_letter(word))
+    (has_axis(word) && ends_with_blank(words)) || (word.len() > 2 && may_have_letter(word))
 }
 
 /// Where moves end with a turn of the cube that may say how many times they are made, such as `x2`.
@@ -183,6 +216,31 @@ pub fn defined_mark(lead: &[u8]) -> Option<usize>
 /// Whether moves have a slice: in a long line a printed F or B may have been read as its letter.
 pub fn has_slice(moves: &[u8]) -> bool {
     moves.iter().any(|byte| matches!(*byte, b'E' | b'M' | b'S'))
+}
+
+/// Where the first byte stands that parts moves so.
+fn gap_at(moves: &[u8], gap: u8) -> Option<usize>
+    ensures { IfSome result (λ at. at ≤ length moves.now) }
+{
+    for (at, byte) in moves.iter().enumerate() {
+        if *byte == gap {
+            return if has_turn(&moves[at..]) {
+                Some(at)
+            } else {
+                None
+            };
+        }
+    }
+    None
+}
+
+/// Where a tab stands between moves of which others have a blank between them: they may be of two columns.
+pub fn column_at(moves: &[u8]) -> Option<usize>
+    ensures { IfSome result (λ at. at ≤ length moves.now) }
+{
+    let tab = gap_at(moves, b'\t')?;
+    gap_at(moves, b' ')?;
+    Some(tab)
 }
 
 /// Whether all that stands after moves is a mark at which others belong, such as `*` or `[^]`. More than two such signs part

@@ -1,18 +1,20 @@
 //! Where the attempts of a stretch begin and end, and their scrambles.
 ghost use Rattle.std.specs.Prelude.{◌≡◌, ◌≤◌, ◌<◌, length};
+ghost use Rattle.niss_text.specs.Said.{is_a_head};
 
-use crate::body::{begins_frame, begins_scramble, is_framed};
+use crate::body::{are_long, begins_frame, begins_scramble, is_framed, is_half_framed};
 use crate::forms::line_length;
 use crate::line::{
-    Beside, Head, Line, Numbers, cut_line, first_line, is_blank, may_begin, names_solutions,
-    whole_length,
+    Beside, Head, Line, Numbers, cut_line, first_line, is_blank, may_begin, whole_length,
 };
 use crate::parts::number_in;
 use crate::stretches::is_open;
 use crate::words::{Wanted, says};
 
 /// Whether a line is the head of a scramble.
-pub fn is_head(line: &Line) -> bool {
+pub fn is_head(line: &Line) -> bool
+    ensures { result ≡ is_a_head line.now.head_kind }
+{
     line.head_kind != Head::None
 }
 
@@ -100,6 +102,13 @@ fn number_of(text: &[u8], line: &Line) -> Option<usize>
     number_in(&text[..line.head])
 }
 
+/// Whether a line, which is the first one of a text, names solutions and has no moves.
+fn names_solutions(text: &[u8], line: &Line) -> bool
+    requires { line.now.length ≤ length text.now }
+{
+    !line.is_moves && says(&text[..line.length], Wanted::Solutions)
+}
+
 /// Whether a text begins with a list of solutions: with a line that names them, and one with moves and the number 1.
 fn lists_solutions(text: &[u8], numbers: Numbers) -> bool {
     let titled = from_filled_line(text);
@@ -124,6 +133,9 @@ pub struct Outline {
     pub length: usize,
     pub first: usize,
     whole: usize,
+    /// Where the moves of that line begin and end.
+    moves: usize,
+    moves_end: usize,
     pub has_name: bool,
     has_sign: bool,
     /// Its scramble says that it is a step.
@@ -142,6 +154,8 @@ impl Outline {
             length: 0,
             first: 0,
             whole: 0,
+            moves: 0,
+            moves_end: 0,
             is_found: false,
             has_name: false,
             has_sign: false,
@@ -167,6 +181,8 @@ impl Outline {
             seen.is_step = line.is_step;
             seen.is_found = line.is_moves;
             seen.first = at;
+            seen.moves = at.saturating_add(line.moves);
+            seen.moves_end = at.saturating_add(line.comment);
         }
         seen
     }
@@ -181,6 +197,26 @@ impl Outline {
             numbers: Numbers::OfLines,
             ..self
         }
+    }
+
+    /// The first line of an attempt with this text, if it stands before the first moves.
+    pub fn title<'a>(&self, text: &'a [u8]) -> &'a [u8]
+        requires first { self.now.first ≤ length text.now }
+    {
+        let before = from_filled_line(&text[..self.first]);
+        &before[..line_length(before)]
+    }
+
+    /// The moves of the first line of its scramble, of an attempt that has this text.
+    pub fn scramble<'a>(&self, text: &'a [u8]) -> &'a [u8] {
+        let end = self.moves_end.min(text.len());
+        &text[self.moves.min(end)..end]
+    }
+
+    /// Whether its scramble is long, and a sign of the R' U' F at one end may have been lost.
+    pub fn is_half_framed(&self, text: &[u8]) -> bool {
+        let moves = self.scramble(text);
+        self.whole == 0 && are_long(0, moves.len()) && is_half_framed(moves)
     }
 
     /// Whether it has a whole scramble.

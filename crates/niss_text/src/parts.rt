@@ -1,7 +1,8 @@
 //! The parts of a text that has only solutions, of scrambles that are known: what stands under each head, or in each block
 //! if the text has no heads.
-ghost use Rattle.std.specs.Prelude.{◌≡◌, ◌≤◌, ◌<◌, ◌==◌, ◌||◌, ◌&&◌, ◌⊎◌, true, false, not, None, is_some, length, take};
-ghost use Rattle.niss_text.specs.Known.{with_digit, is_extra, head_number, number_of_line, HaveHeads, IsName, IsNamed, IsNumbered};
+ghost use Rattle.std.specs.Prelude.{◌≡◌, ◌≤◌, ◌<◌, ◌==◌, ◌||◌, ◌&&◌, ◌⊎◌, ℕ, List, true, false, not, None, is_some, length, take, drop};
+ghost use Rattle.niss_text.specs.Known.{with_digit, is_extra, head_number, number_of_line, HaveHeads, IsName, IsNamed, IsNumbered, IsRead};
+ghost use Rattle.niss_text.specs.Lines.{Covers, has_moves};
 ghost use Rattle.niss_text.specs.Doubts.{is_letter};
 
 use crate::moves::part_of;
@@ -62,7 +63,9 @@ fn number_of(text: &[u8], line: &TextLine) -> Option<usize>
 }
 
 /// Whether a line has moves.
-fn has_moves(line: &TextLine) -> bool {
+fn has_moves(line: &TextLine) -> bool
+    ensures { result ≡ has_moves line.now }
+{
     line.is_a(LineKind::Scramble) || line.is_a(LineKind::Step)
 }
 
@@ -97,7 +100,8 @@ impl Part {
     fn nothing() -> Part
         ensures name { (result.name_begin ≡ 0) × (result.name_end ≡ 0) }
         ensures number { result.number ≡ None }
-        ensures none { result.has_head ≡ false }
+        ensures none { (result.has_head ≡ false) × ((result.has_moves ≡ false) × (result.has_body ≡ false)) }
+        ensures unbegun { result.is_begun ≡ false }
     {
         Part {
             begin: 0,
@@ -115,20 +119,24 @@ impl Part {
     }
 
     /// Whether there is something in it.
-    pub fn is_something(&self) -> bool {
+    pub fn is_something(&self) -> bool
+        ensures { result ≡ (self.now.has_head || self.now.has_moves) }
+    {
         self.has_head || self.has_moves
     }
 
     /// Whether a line begins another part: if it has a head after moves, or one with another number; without heads in
     /// the text if it is blank.
-    fn is_ended_by(&self, line: &TextLine, number: Option<usize>, is_by_blocks: bool) -> bool {
-        if is_by_blocks {
-            return self.is_begun && line.is_a(LineKind::Blank);
+    fn is_ended_by(&self, line: &TextLine, number: Option<usize>, is_by_blocks: bool) -> bool
+        ensures { result ≡ false → (line.now.is_headed ≡ 0) ⊎ (self.now.has_moves ≡ false) }
+    {
+        if line.is_headed != 0 {
+            let is_other = self.first_number.is_some()
+                && number.is_some()
+                && number != self.first_number;
+            return self.has_moves || is_other;
         }
-        let is_other = self.first_number.is_some()
-            && number.is_some()
-            && number != self.first_number;
-        line.is_headed != 0 && (self.has_moves || is_other)
+        is_by_blocks && self.is_begun && line.is_a(LineKind::Blank)
     }
 
     /// With one more line, of whose head this is the number.
@@ -138,6 +146,14 @@ impl Part {
         ensures kept { (line.now.is_headed ≡ 0) ⊎ (self.has_head ≡ true) →
             (result.name_begin ≡ self.name_begin) × (result.name_end ≡ self.name_end) × (result.number ≡ self.number) }
         ensures has { result.has_head ≡ (self.has_head || not (line.now.is_headed == 0)) }
+        ensures moves { result.has_moves ≡ (self.has_moves || has_moves line.now) }
+        ensures bare { result.has_body ≡ false → (line.now.kind ≡ 0) × ((line.now.is_headed ≡ 0 → ⊥) ⊎ (self.has_body ≡ false)) }
+        ensures under_head { (line.now.is_headed ≡ 0 → ⊥) → result.body ≡ line.now.head_end }
+        ensures first { line.now.is_headed ≡ 0 → self.has_body ≡ false → result.has_body ≡ true → result.body ≡ line.now.begin }
+        ensures later { line.now.is_headed ≡ 0 → (self.has_body ≡ true) ⊎ (result.has_body ≡ false) → result.body ≡ self.body }
+        ensures unbegun { (result.is_begun ≡ true) ⊎ ((result ≡ self) × ((line.now.kind ≡ 0) × (line.now.is_headed ≡ 0))) }
+        ensures begins { self.is_begun ≡ false → result.is_begun ≡ true → result.begin ≡ line.now.begin }
+        ensures goes_on { self.is_begun ≡ true → (result.is_begun ≡ true) × (result.begin ≡ self.begin) }
     {
         let is_blank = line.is_a(LineKind::Blank);
         if line.is_headed != 0 {
@@ -159,6 +175,10 @@ impl Part {
     fn begun(self, line: &TextLine) -> Part
         ensures kept { (result.name_begin ≡ self.name_begin) × (result.name_end ≡ self.name_end) × (result.number ≡ self.number) }
         ensures has { result.has_head ≡ self.has_head }
+        ensures same { (result.has_moves ≡ self.has_moves) × ((result.has_body ≡ self.has_body) × (result.body ≡ self.body)) }
+        ensures begun { result.is_begun ≡ true }
+        ensures begins { self.is_begun ≡ false → result.begin ≡ line.now.begin }
+        ensures goes_on { self.is_begun ≡ true → result.begin ≡ self.begin }
     {
         Part {
             begin: if self.is_begun {
@@ -178,6 +198,11 @@ impl Part {
         ensures kept { self.has_head ≡ true →
             (result.name_begin ≡ self.name_begin) × (result.name_end ≡ self.name_end) × (result.number ≡ self.number) }
         ensures has { result.has_head ≡ true }
+        ensures moves { result.has_moves ≡ (self.has_moves || has_moves line.now) }
+        ensures body { (result.body ≡ line.now.head_end) × (result.has_body ≡ has_body) }
+        ensures begun { result.is_begun ≡ true }
+        ensures begins { self.is_begun ≡ false → result.begin ≡ line.now.begin }
+        ensures goes_on { self.is_begun ≡ true → result.begin ≡ self.begin }
     {
         let mut part = self.begun(line);
         if !self.has_head {
@@ -194,6 +219,16 @@ impl Part {
     }
 }
 
+/// Where the first of some lines stands, or the place where they end if there is none.
+fn place_of(lines: &[TextLine], end: usize) -> usize
+    ensures { (text : List ℕ) (at : ℕ) → Covers text at lines.now end → result ≡ at }
+{
+    match lines.split_first() {
+        Some((line, _)) => line.begin,
+        None => end,
+    }
+}
+
 /// The first part of some lines, and how many of them it has.
 pub fn first_part(text: &[u8], lines: &[TextLine], is_by_blocks: bool) -> (Part, usize)
     ensures fits { result.1 ≤ length lines.now }
@@ -201,6 +236,8 @@ pub fn first_part(text: &[u8], lines: &[TextLine], is_by_blocks: bool) -> (Part,
     ensures numbered { IsNumbered text.now result.0 }
     ensures named { IsNamed (take result.1 lines.now) result.0 }
     ensures name { HaveHeads text.now lines.now → IsName text.now result.0.name_begin result.0.name_end }
+    ensures read { (from : ℕ) → Covers text.now from lines.now (length text.now) → IsRead text.now from result.1 result.0 }
+    ensures rest { (from : ℕ) → Covers text.now from lines.now (length text.now) → Covers text.now result.0.end (drop result.1 lines.now) (length text.now) }
 {
     let mut part = Part::nothing();
     let mut rest = lines;
@@ -212,6 +249,6 @@ pub fn first_part(text: &[u8], lines: &[TextLine], is_by_blocks: bool) -> (Part,
         part = part.with(line, number);
         rest = others;
     }
-    part.end = rest.first().map_or(text.len(), |line| line.begin);
+    part.end = place_of(rest, text.len());
     (part, lines.len() - rest.len())
 }

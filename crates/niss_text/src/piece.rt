@@ -1,8 +1,8 @@
 //! The pieces of a text, one after another: single bytes of moves, and what is read otherwise or left out.
-ghost use Rattle.std.specs.Prelude.{◌≡◌, ◌<◌, ◌≤◌, false, None, length, take, slice_index, IfSome};
-ghost use Rattle.niss_text.specs.Pieces.{IsFirst, IsLabel, is_title};
-ghost use Rattle.niss_text.specs.declared.piece.Place.TheVariants.{Among};
-ghost use Rattle.niss_text.specs.declared.piece.Piece.TheVariants.{Kept};
+ghost use Rattle.std.specs.Prelude.{◌≡◌, ◌<◌, ◌≤◌, Bool, true, false, None, length, take, slice_index, IfSome};
+ghost use Rattle.niss_text.specs.Pieces.{IsFirst, IsLabel, is_begun, is_title};
+ghost use Rattle.niss_text.specs.declared.piece.Place.TheVariants.{Among, Begin};
+ghost use Rattle.niss_text.specs.declared.piece.Piece.TheVariants.{Comment, Kept, LineNumber};
 ghost use Rattle.niss_text.specs.Signs.{begins_number, begins_count};
 
 use crate::forms::{count_length, label_of, line_length};
@@ -51,7 +51,8 @@ impl Place {
 
     /// Where one is after a piece.
     pub fn after(self, piece: Piece) -> Place
-        ensures { self ≡ Among → result ≡ Among }
+        ensures among { self ≡ Among → result ≡ Among }
+        ensures begin { result ≡ Begin → (begun : Bool) → (self ≡ Begin → begun ≡ true) → is_begun begun piece ≡ true }
     {
         match piece {
             _ if self == Place::Among => self,
@@ -117,7 +118,8 @@ fn form_of_moves(text: &[u8]) -> Option<(Piece, usize)>
 /// The piece before the moves of a line in front of a text, if there is one, and how many bytes it has.
 fn first_of_line(text: &[u8], place: Place) -> Option<(Piece, usize)>
     requires { 0 < length text.now }
-    ensures { IfSome result (λ first. IsFirst text.now first.0 first.1) }
+    ensures first { IfSome result (λ first. IsFirst text.now first.0 first.1) }
+    ensures number { IfSome result (λ first. first.0 ≡ LineNumber → place ≡ Begin) }
 {
     let line = &text[..line_length(text)];
     if place == Place::Begin && begins_number(text[0]) {
@@ -165,6 +167,7 @@ pub fn first_piece(text: &[u8], place: Place) -> (Piece, usize)
     requires { 0 < length text.now }
     ensures first { IsFirst text.now result.0 result.1 }
     ensures untitled { place ≡ Among → is_title result.0 ≡ false }
+    ensures number { result.0 ≡ LineNumber → place ≡ Begin }
 {
     if place.has_titles() && may_begin(first_sign(text).kind) {
         if let Some(first) = first_of_line(text, place) {

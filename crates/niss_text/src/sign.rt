@@ -1,10 +1,10 @@
 //! The signs of a text: those that are told apart, however many bytes they have, and else single bytes.
 ghost use Rattle.std.specs.Prelude.{◌≡◌, ◌<◌, ◌≤◌, ◌-◌, ℕ, true, false, not, None, [], ◌∷◌, length, take, drop, slice_index, IfSome, MatchOption};
-ghost use Rattle.niss_text.specs.Signs.{IsSign, HasNoMoves, is_digit, is_letter, is_of_words, is_skipped, is_kept, is_changed, is_spacing, begins_changed, ends_word, AreSigns, AreWords};
-ghost use Rattle.niss_text.specs.Doubts.{is_capital};
+ghost use Rattle.niss_text.specs.Signs.{IsSign, HasNoMoves, is_digit, is_letter, is_of_letters, is_of_words, is_skipped, is_kept, is_changed, is_spacing, begins_changed, ends_word, AreSigns, AreWords};
+ghost use Rattle.niss_text.specs.Doubts.{is_capital, is_letter as is_plain_letter};
 ghost use Rattle.niss_text.specs.Kept.{HasTurns, IsTurnUpTo, is_turn};
 ghost use Rattle.niss_text.specs.declared.sign.Kind.TheVariants.{Capital};
-ghost use Rattle.niss_text.specs.declared.sign.Class.TheVariants.{NoBlanks, Skipped, Words};
+ghost use Rattle.niss_text.specs.declared.sign.Class.TheVariants.{Letters, NoBlanks, Skipped, Words};
 
 /// What a sign is. A byte that begins none of the longer ones is one by itself, also if it isn't UTF-8.
 #[derive(Clone, Copy, PartialEq, Eq)]
@@ -60,6 +60,8 @@ fn kind_of_byte(byte: u8) -> Kind
     ensures turn { is_turn byte ≡ true → ends_word result ≡ false }
     ensures capital { is_capital byte ≡ true → result ≡ Capital }
     ensures blank { byte ≡ 32 → (is_skipped result ≡ true) × (ends_word result ≡ true) }
+    ensures letter { is_of_letters result ≡ true → is_letter byte ≡ true }
+    ensures plain { is_plain_letter byte ≡ true → is_of_letters result ≡ true }
 {
     match byte {
         b'\n' | b'\r' => Kind::LineEnd,
@@ -86,6 +88,8 @@ fn kind_of_byte(byte: u8) -> Kind
 fn kind_of_two(first: u8, second: u8) -> Option<Kind>
     ensures is { IfSome result (λ kind. IsSign kind (first ∷ second ∷ [])) }
     ensures changed { IfSome result (λ kind. is_kept kind ≡ false) }
+    ensures other { IfSome result (λ kind. is_of_letters kind ≡ false) }
+    ensures others { IfSome result (λ kind. (is_plain_letter first ≡ false) × (is_plain_letter second ≡ false)) }
     ensures none { result ≡ None → is_changed (first ∷ second ∷ []) ≡ false }
 {
     match (first, second) {
@@ -103,6 +107,8 @@ fn kind_of_punctuation(third: u8) -> Option<Kind>
     ensures is { IfSome result (λ kind. IsSign kind (226 ∷ 128 ∷ third ∷ [])) }
     ensures kept { MatchOption result (is_changed (226 ∷ 128 ∷ third ∷ []) ≡ false)
         (λ kind. is_kept kind ≡ true → is_changed (226 ∷ 128 ∷ third ∷ []) ≡ false) }
+    ensures other { IfSome result (λ kind. is_of_letters kind ≡ false) }
+    ensures beyond { IfSome result (λ kind. 128 ≤ third) }
 {
     match third {
         0x80..=0x8a | 0xa8 | 0xa9 | 0xaf => Some(Kind::Blank),
@@ -121,6 +127,8 @@ fn kind_of_three(first: u8, second: u8, third: u8) -> Option<Kind>
     ensures kept { MatchOption result (is_changed (first ∷ second ∷ third ∷ []) ≡ false)
         (λ kind. is_kept kind ≡ true → is_changed (first ∷ second ∷ third ∷ []) ≡ false) }
     ensures beyond { IfSome result (λ kind. 128 ≤ first) }
+    ensures inner { IfSome result (λ kind. (128 ≤ second) × (128 ≤ third)) }
+    ensures other { IfSome result (λ kind. is_of_letters kind ≡ false) }
 {
     match (first, second, third) {
         (0xe2, 0x80, third) => kind_of_punctuation(third),
@@ -142,6 +150,9 @@ pub fn first_sign(text: &[u8]) -> Sign
     ensures turn { is_turn (slice_index text.now 0) ≡ true → (ends_word result.kind ≡ false) × (result.length ≡ 1) }
     ensures capital { is_capital (slice_index text.now 0) ≡ true → result.kind ≡ Capital }
     ensures blank { slice_index text.now 0 ≡ 32 → (is_skipped result.kind ≡ true) × (ends_word result.kind ≡ true) }
+    ensures letter { is_of_letters result.kind ≡ true → (result.length ≡ 1) × (is_letter (slice_index text.now 0) ≡ true) }
+    ensures plain { is_plain_letter (slice_index text.now 0) ≡ true → is_of_letters result.kind ≡ true }
+    ensures inner { (k : ℕ) → 0 < k → k < result.length → is_plain_letter (slice_index text.now k) ≡ false }
 {
     // no longer sign begins with another byte of ASCII
     if text[0] < 0x80 && text[0] != b'\r' {
@@ -161,6 +172,9 @@ fn longer_sign(text: &[u8]) -> Sign
     ensures fits { result.length ≤ length text.now }
     ensures is { IsSign result.kind (take result.length text.now) }
     ensures kept { is_kept result.kind ≡ true → begins_changed text.now ≡ false }
+    ensures letter { is_of_letters result.kind ≡ true → (result.length ≡ 1) × (is_letter (slice_index text.now 0) ≡ true) }
+    ensures plain { is_plain_letter (slice_index text.now 0) ≡ true → is_of_letters result.kind ≡ true }
+    ensures inner { (k : ℕ) → 0 < k → k < result.length → is_plain_letter (slice_index text.now k) ≡ false }
 {
     if text.len() > 1 {
         if let Some(kind) = kind_of_two(text[0], text[1]) {
@@ -189,6 +203,9 @@ pub fn one_sign(text: &[u8]) -> Sign
     ensures turn { is_turn (slice_index text.now 0) ≡ true → (ends_word result.kind ≡ false) × (result.length ≡ 1) }
     ensures capital { is_capital (slice_index text.now 0) ≡ true → result.kind ≡ Capital }
     ensures blank { slice_index text.now 0 ≡ 32 → (is_skipped result.kind ≡ true) × (ends_word result.kind ≡ true) }
+    ensures letter { is_of_letters result.kind ≡ true → (result.length ≡ 1) × (is_letter (slice_index text.now 0) ≡ true) }
+    ensures plain { is_plain_letter (slice_index text.now 0) ≡ true → is_of_letters result.kind ≡ true }
+    ensures inner { (k : ℕ) → 0 < k → k < result.length → is_plain_letter (slice_index text.now k) ≡ false }
 {
     first_sign(text)
 }
@@ -228,7 +245,8 @@ pub fn is_skipped(kind: Kind) -> bool
 
 /// Whether a sign is one of a word.
 pub fn is_of_word(kind: Kind) -> bool
-    ensures { result ≡ true → is_of_words kind ≡ true }
+    ensures is { result ≡ true → is_of_words kind ≡ true }
+    ensures letters { is_of_letters kind ≡ true → result ≡ true }
 {
     matches!(
         kind,
@@ -238,7 +256,7 @@ pub fn is_of_word(kind: Kind) -> bool
 
 /// Whether a sign is a letter, or a byte beyond ASCII.
 pub fn is_letter(kind: Kind) -> bool
-    ensures { kind ≡ Capital → result ≡ true }
+    ensures { result ≡ is_of_letters kind }
 {
     matches!(
         kind,
@@ -268,6 +286,8 @@ impl Class {
         ensures skipped { self ≡ Skipped → result ≡ is_skipped kind }
         ensures words { self ≡ Words → result ≡ true → is_of_words kind ≡ true }
         ensures no_blanks { self ≡ NoBlanks → result ≡ not (ends_word kind) }
+        ensures letters { self ≡ Letters → result ≡ is_of_letters kind }
+        ensures of_words { self ≡ Words → is_of_letters kind ≡ true → result ≡ true }
     {
         match self {
             Class::Skipped => is_skipped(kind),
@@ -299,6 +319,9 @@ pub fn behind(text: &[u8], class: Class) -> &[u8]
     ensures words { class ≡ Words → AreWords (take (length text.now - length result.now) text.now) }
     ensures turns { class ≡ NoBlanks → HasTurns text.now → IsTurnUpTo text.now (length text.now - length result.now) }
     ensures unblank { class ≡ Skipped → slice_index result.now 0 ≡ 32 → ⊥ }
+    ensures letters { class ≡ Letters → (k : ℕ) → k < length text.now - length result.now → is_letter (slice_index text.now k) ≡ true }
+    ensures all_letters { class ≡ Letters → is_plain_letter (slice_index result.now 0) ≡ false }
+    ensures all_words { class ≡ Words → is_plain_letter (slice_index result.now 0) ≡ false }
 {
     // a loop for the one that is asked for most, which has only its test
     match class {
@@ -317,6 +340,9 @@ fn passed(text: &[u8], class: Class) -> &[u8]
     ensures words { class ≡ Words → AreWords (take (length text.now - length result.now) text.now) }
     ensures turns { class ≡ NoBlanks → HasTurns text.now → IsTurnUpTo text.now (length text.now - length result.now) }
     ensures unblank { class ≡ Skipped → slice_index result.now 0 ≡ 32 → ⊥ }
+    ensures letters { class ≡ Letters → (k : ℕ) → k < length text.now - length result.now → is_letter (slice_index text.now k) ≡ true }
+    ensures all_letters { class ≡ Letters → is_plain_letter (slice_index result.now 0) ≡ false }
+    ensures all_words { class ≡ Words → is_plain_letter (slice_index result.now 0) ≡ false }
 {
     let mut rest = text;
     while !rest.is_empty() {
@@ -363,6 +389,9 @@ pub fn length_of(text: &[u8], class: Class) -> usize
     ensures fits { result ≤ length text.now }
     ensures words { class ≡ Words → AreWords (take result text.now) }
     ensures turns { class ≡ NoBlanks → HasTurns text.now → IsTurnUpTo text.now result }
+    ensures letters { class ≡ Letters → (k : ℕ) → k < result → is_letter (slice_index text.now k) ≡ true }
+    ensures all_letters { class ≡ Letters → is_plain_letter (slice_index text.now result) ≡ false }
+    ensures all_words { class ≡ Words → is_plain_letter (slice_index text.now result) ≡ false }
 {
     text.len() - behind(text, class).len()
 }

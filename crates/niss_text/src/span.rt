@@ -71,6 +71,7 @@ impl Frame {
         ensures name { result.name ≤ self.name }
         ensures tail_is { (text : List ℕ) → IsNoMove text self.has_tail self.tail → IsNoMove text result.has_tail result.tail }
         ensures open_is { (text : List ℕ) → IsNoMove text self.is_open self.bracket → IsNoMove text result.is_open result.bracket }
+        ensures moved { (result.is_lead ≡ false) × (result.lead ≡ self.lead) }
     {
         let mut frame = self;
         frame.is_lead = false;
@@ -90,6 +91,7 @@ impl Frame {
         ensures tail_is { (text : List ℕ) → IsNoMove text self.has_tail self.tail → IsNoMove text self.is_open self.bracket →
             IsNoMove text true begin → IsNoMove text result.has_tail result.tail }
         ensures open_is { (text : List ℕ) → IsNoMove text self.is_open self.bracket → IsNoMove text result.is_open result.bracket }
+        ensures stays { self.is_lead ≡ false → (result.is_lead ≡ false) × (result.lead ≡ self.lead) }
     {
         let mut frame = self;
         if self.is_lead {
@@ -109,6 +111,7 @@ impl Frame {
         ensures name { self.name ≤ begin → result.name ≤ begin }
         ensures tail_is { (text : List ℕ) → IsNoMove text self.has_tail self.tail → IsNoMove text result.has_tail result.tail }
         ensures open_is { (text : List ℕ) → IsNoMove text self.is_open self.bracket → IsNoMove text result.is_open result.bracket }
+        ensures stays { self.is_lead ≡ false → (result.is_lead ≡ false) × (result.lead ≡ self.lead) }
     {
         let mut frame = self;
         if !self.has_name {
@@ -127,6 +130,7 @@ impl Frame {
         ensures tail_is { (text : List ℕ) → IsNoMove text self.has_tail self.tail → IsNoMove text result.has_tail result.tail }
         ensures open_is { (text : List ℕ) → IsNoMove text self.is_open self.bracket → IsNoMove text true begin →
             IsNoMove text result.is_open result.bracket }
+        ensures stays { self.is_lead ≡ false → (result.is_lead ≡ false) × (result.lead ≡ self.lead) }
     {
         let mut frame = self;
         if !self.has_tail {
@@ -145,6 +149,7 @@ impl Frame {
         ensures name { result.name ≤ self.name }
         ensures tail_is { (text : List ℕ) → IsNoMove text self.has_tail self.tail → IsNoMove text result.has_tail result.tail }
         ensures open_is { (text : List ℕ) → IsNoMove text self.is_open self.bracket → IsNoMove text result.is_open result.bracket }
+        ensures stays { self.is_lead ≡ false → (result.is_lead ≡ false) × (result.lead ≡ self.lead) }
     {
         let mut frame = self;
         if self.is_lead && self.is_open && self.lead > 0 {
@@ -166,6 +171,8 @@ impl Frame {
             ((word ≡ Move → ⊥) → IsNoMove text true begin) → IsNoMove text result.has_tail result.tail }
         ensures open_is { (text : List ℕ) → IsNoMove text self.is_open self.bracket → ((word ≡ Move → ⊥) → IsNoMove text true begin) →
             IsNoMove text result.is_open result.bracket }
+        ensures stays { self.is_lead ≡ false → (result.is_lead ≡ false) × (result.lead ≡ self.lead) }
+        ensures moved { word ≡ Move → (result.is_lead ≡ false) × (result.lead ≡ self.lead) }
     {
         match word {
             Word::Move | Word::Moves => self.with_moves(),
@@ -190,6 +197,7 @@ impl Frame {
         ensures name { result.name ≤ self.name }
         ensures tail_is { (text : List ℕ) → IsNoMove text self.has_tail self.tail → IsNoMove text result.has_tail result.tail }
         ensures open_is { (text : List ℕ) → IsNoMove text self.is_open self.bracket → IsNoMove text result.is_open result.bracket }
+        ensures stays { self.is_lead ≡ false → (result.is_lead ≡ false) × (result.lead ≡ self.lead) }
     {
         let mut frame = self;
         frame.is_lead = false;
@@ -205,6 +213,7 @@ impl Frame {
         ensures name { result.name ≤ self.name }
         ensures tail_is { (text : List ℕ) → IsNoMove text self.has_tail self.tail → IsNoMove text result.has_tail result.tail }
         ensures open_is { (text : List ℕ) → IsNoMove text self.is_open self.bracket → IsNoMove text result.is_open result.bracket }
+        ensures stays { self.is_lead ≡ false → (result.is_lead ≡ false) × (result.lead ≡ self.lead) }
     {
         let mut frame = self;
         frame.has_words = true;
@@ -222,6 +231,7 @@ impl Frame {
         ensures fits { result.end ≤ length }
         ensures name { result.name ≤ length }
         ensures tail { (text : List ℕ) → IsNoMove text self.has_tail self.tail → result.end < length → begins_with_move (drop result.end text) ≡ false }
+        ensures front { self.lead ≡ 0 → result.begin ≡ 0 }
     {
         let is_told = self.moves > 1 && !(self.is_open && self.is_of_moves);
         if !is_told {
@@ -252,6 +262,7 @@ pub fn span_of(line: &[u8]) -> Span
     ensures name { result.name ≤ length line.now }
     ensures tail { result.end < length line.now → begins_with_move (drop result.end line.now) ≡ false }
     ensures plain { ArePlain line.now → (result.is_moves ≡ true) × ((result.begin ≡ 0) × (result.end ≡ length line.now)) }
+    ensures front { begins_with_move line.now ≡ true → result.begin ≡ 0 }
 {
     if are_plain_moves(line) {
         return Span {

@@ -1,5 +1,5 @@
 //! A line of a text in the attempt that it is of.
-ghost use Rattle.std.specs.Prelude.{◌≡◌, ◌==◌, ◌≤◌, ◌+◌, length};
+ghost use Rattle.std.specs.Prelude.{◌≡◌, ◌==◌, ◌≤◌, ◌+◌, nat_le, if◌then◌else◌, length};
 ghost use Rattle.niss_text.specs.Lines.{IsLine};
 ghost use Rattle.niss_text.specs.Numbers.{number_of_kind};
 
@@ -34,7 +34,9 @@ impl LineKind {
     }
 
     /// Whether it stands after the scramble.
-    pub fn is_after_scramble(self) -> bool {
+    pub fn is_after_scramble(self) -> bool
+        ensures { result ≡ nat_le 3 (number_of_kind self) }
+    {
         matches!(self, LineKind::Step | LineKind::Note)
     }
 }
@@ -82,6 +84,13 @@ impl TextLine {
     }
 }
 
+/// What is told of a line by a number: 1 if it holds, and else 0.
+pub fn flag(holds: bool) -> u8
+    ensures { result ≡ (if holds then 1 else 0) }
+{
+    if holds { 1 } else { 0 }
+}
+
 /// What a line is told to be.
 #[derive(Clone, Copy)]
 pub struct Role {
@@ -105,12 +114,16 @@ pub fn told_line(role: &Role, line: &Line, begin: usize) -> TextLine
     ensures undoubted { result.doubt_at ≡ result.end }
     ensures kind { result.kind ≡ number_of_kind role.now.kind }
     ensures attempt { result.attempt ≡ role.now.attempt }
+    ensures group { result.group ≡ role.now.group }
+    ensures solution { result.is_solution ≡ (if role.now.is_solution then 1 else 0) }
+    ensures headed { result.is_headed ≡ (if role.now.is_headed then 1 else 0) }
+    ensures says { result.says_solution ≡ (if line.now.is_solution then 1 else 0) }
 {
     TextLine {
         kind: role.kind.number(),
-        is_solution: u8::from(role.is_solution),
-        is_headed: u8::from(role.is_headed),
-        says_solution: u8::from(line.is_solution),
+        is_solution: flag(role.is_solution),
+        is_headed: flag(role.is_headed),
+        says_solution: flag(line.is_solution),
         is_inverse: 0,
         doubt: 0,
         attempt: role.attempt,

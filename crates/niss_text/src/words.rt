@@ -1,10 +1,15 @@
 //! Words in a text, in capitals or small letters.
-ghost use Rattle.std.specs.Prelude.{◌≡◌, ◌≤◌, ◌<◌, length, take, map};
+ghost use Rattle.std.specs.Prelude.{◌≡◌, ◌≤◌, ◌<◌, ◌+◌, ℕ, true, false, length, take, drop, map, slice_index};
+ghost use Rattle.niss_text.specs.Signs.{is_letter};
+ghost use Rattle.niss_text.specs.Doubts.{is_letter as is_plain_letter};
 ghost use Rattle.std.specs.List.{Contains};
-ghost use Rattle.niss_text.specs.Kept.{small, words_of_head};
+ghost use Rattle.niss_text.specs.Kept.{small};
+ghost use Rattle.niss_text.specs.Said.{HasWord, listed, words_of, words_of_step, are_spelled};
 
 use crate::sights::is_capital;
-use crate::sign::{Class, Kind, first_kind, is_letter_byte, length_of, trimmed};
+use crate::sign::{
+    Class, Kind, first_kind, from_place, is_letter_byte, length_of, one_sign, trimmed,
+};
 
 /// A letter of ASCII as a small one.
 fn small(byte: u8) -> u8
@@ -22,6 +27,7 @@ fn small(byte: u8) -> u8
 pub fn word_length(text: &[u8], word: &[u8]) -> usize
     ensures fits { result ≤ length text.now }
     ensures word { 0 < result → map small (take result text.now) ≡ word.now }
+    ensures all { result ≡ 0 → 0 < length word.now → map small (take (length word.now) text.now) ≡ word.now → ⊥ }
 {
     if text.len() < word.len() {
         return 0;
@@ -35,13 +41,19 @@ pub fn word_length(text: &[u8], word: &[u8]) -> usize
 }
 
 /// Whether a text is this word, which is written in small letters and has any.
-pub fn is_word(text: &[u8], word: &[u8]) -> bool {
+pub fn is_word(text: &[u8], word: &[u8]) -> bool
+    ensures some { result ≡ true → 0 < length text.now }
+    ensures is { result ≡ true → map small text.now ≡ word.now }
+    ensures all { 0 < length text.now → map small text.now ≡ word.now → result ≡ true }
+{
     text.len() == word.len() && word_length(text, word) > 0
 }
 
 /// How many bytes of some words stand before the first comma.
 fn first_length(words: &[u8]) -> usize
-    ensures { result ≤ length words.now }
+    ensures fits { result ≤ length words.now }
+    ensures before { (k : ℕ) → k < result → slice_index words.now k ≡ 44 → ⊥ }
+    ensures comma { result < length words.now → slice_index words.now result ≡ 44 }
 {
     for (at, byte) in words.iter().enumerate() {
         if *byte == b',' {
@@ -51,17 +63,42 @@ fn first_length(words: &[u8]) -> usize
     words.len()
 }
 
+/// What is behind the first of some words, which has that many bytes, and its comma.
+fn behind_word(words: &[u8], count: usize) -> &[u8]
+    requires { count ≤ length words.now }
+    ensures more { count < length words.now → result.now ≡ drop (count + 1) words.now }
+    ensures last { length words.now ≤ count → length result.now ≡ 0 }
+{
+    let comma = from_place(words, count);
+    from_place(comma, comma.len().min(1))
+}
+
+/// Whether a text begins with a word, or is it.
+fn fits(text: &[u8], word: &[u8], is_whole: bool) -> bool
+    ensures some { is_whole ≡ true → result ≡ true → 0 < length text.now }
+    ensures whole { is_whole ≡ true → result ≡ true → map small text.now ≡ word.now }
+    ensures all { is_whole ≡ true → 0 < length text.now → map small text.now ≡ word.now → result ≡ true }
+{
+    if is_whole {
+        is_word(text, word)
+    } else {
+        word_length(text, word) > 0
+    }
+}
+
 /// Whether a text begins with one of these words, or is one. They have small letters, and commas between them.
 #[inline(never)]
-fn fits_one_of(text: &[u8], words: &[u8], is_whole: bool) -> bool {
+fn fits_one_of(text: &[u8], words: &[u8], is_whole: bool) -> bool
+    ensures whole { is_whole ≡ true → result ≡ true → Contains (listed words.now) (map small text.now) }
+    ensures all { is_whole ≡ true → 0 < length text.now → Contains (listed words.now) (map small text.now) → result ≡ true }
+{
     let mut rest = words;
     while !rest.is_empty() {
         let length = first_length(rest);
-        if (!is_whole || text.len() == length) && word_length(text, &rest[..length]) > 0 {
+        if fits(text, &rest[..length], is_whole) {
             return true;
         }
-        let comma = &rest[length..];
-        rest = &comma[comma.len().min(1)..];
+        rest = behind_word(rest, length);
     }
     false
 }
@@ -76,6 +113,11 @@ pub fn is_other_side(word: &[u8]) -> bool {
 pub enum Wanted {
     /// What solvers call a step.
     Step,
+    /// The first of them, and those that follow.
+    Orientation,
+    Reduction,
+    HalfTurns,
+    Finish,
     /// What solvers call a solution.
     Solution,
     /// Several of them.
@@ -92,9 +134,16 @@ pub enum Wanted {
 
 impl Wanted {
     /// Whether a word is of them.
-    fn has(self, word: &[u8]) -> bool {
+    fn has(self, word: &[u8]) -> bool
+        ensures said { result ≡ true → Contains (words_of self) (map small word.now) }
+        ensures all { 0 < length word.now → Contains (words_of self) (map small word.now) → result ≡ true }
+    {
         match self {
             Wanted::Step => is_step_name(word),
+            Wanted::Orientation => is_word(word, b"eo"),
+            Wanted::Reduction => is_word(word, b"dr"),
+            Wanted::HalfTurns => is_word(word, b"htr"),
+            Wanted::Finish => is_word(word, b"finish"),
             Wanted::Solution => fits_one_of(word, SOLUTIONS, true),
             Wanted::Solutions => is_word(word, b"solutions"),
             Wanted::Final => is_word(word, b"final"),
@@ -114,13 +163,21 @@ const SCRAMBLES: &[u8] =
     b"scramble,scr,mischung,verdrehung,m\xc3\xa9lange,melange,mezcla,mescolata,embaralhamento,\xd1\x81\xd0\xba\xd1\x80\xd0\xb0\xd0\xbc\xd0\xb1\xd0\xbb,\xd0\xa1\xd0\xba\xd1\x80\xd0\xb0\xd0\xbc\xd0\xb1\xd0\xbb,\xe6\x89\x93\xe4\xb9\xb1,\xe6\x89\x93\xe4\xba\x82,\xe3\x82\xb9\xe3\x82\xaf\xe3\x83\xa9\xe3\x83\xb3\xe3\x83\x96\xe3\x83\xab,\xec\x8a\xa4\xed\x81\xac\xeb\x9e\xa8\xeb\xb8\x94";
 
 /// Whether solvers call a step so.
-pub fn is_step_name(word: &[u8]) -> bool {
+pub fn is_step_name(word: &[u8]) -> bool
+    ensures said { result ≡ true → Contains words_of_step (map small word.now) }
+    ensures all { 0 < length word.now → Contains words_of_step (map small word.now) → result ≡ true }
+{
     fits_one_of(word, b"eo,dr,htr,fr,finish,skeleton,slice", true)
 }
 
 /// Whether solvers call the last step so, or its end.
 pub fn is_end_name(word: &[u8]) -> bool {
     fits_one_of(word, b"fin,end,done,rest,solved", true)
+}
+
+/// Whether solvers call a step so, and then say of which axis it is.
+pub fn has_axis(word: &[u8]) -> bool {
+    fits_one_of(word, b"eo,dr", true)
 }
 
 /// Whether a text begins with a word before which solvers name a place of the cube, or a case, by a letter.
@@ -133,7 +190,9 @@ pub fn names_place(text: &[u8]) -> bool {
 }
 
 /// Whether two letters of a text stand together.
-fn has_word(text: &[u8]) -> bool {
+fn has_word(text: &[u8]) -> bool
+    ensures { (k : ℕ) → is_letter (slice_index text.now k) ≡ true → is_letter (slice_index text.now (k + 1)) ≡ true → result ≡ true }
+{
     let mut is_after_letter = false;
     for byte in text {
         let is_letter = is_letter_byte(*byte);
@@ -145,9 +204,25 @@ fn has_word(text: &[u8]) -> bool {
     false
 }
 
+/// How many bytes the first sign of a text has: none of none.
+fn sign_size(text: &[u8]) -> usize
+    ensures some { 0 < length text.now → 0 < result }
+    ensures fits { result ≤ length text.now }
+    ensures inner { (k : ℕ) → 0 < k → k < result → is_plain_letter (slice_index text.now k) ≡ false }
+{
+    if text.is_empty() {
+        0
+    } else {
+        one_sign(text).length
+    }
+}
+
 /// Whether a text has a word of such.
 #[inline(never)]
-pub fn says(text: &[u8], wanted: Wanted) -> bool {
+pub fn says(text: &[u8], wanted: Wanted) -> bool
+    ensures said { result ≡ true → HasWord is_plain_letter (words_of wanted) text.now }
+    ensures all { are_spelled (words_of wanted) ≡ true → HasWord is_letter (words_of wanted) text.now → result ≡ true }
+{
     if !has_word(text) {
         return false;
     }
@@ -158,12 +233,8 @@ pub fn says(text: &[u8], wanted: Wanted) -> bool {
         if letters > 1 && wanted.has(&rest[..letters]) {
             return true;
         }
-        rest = &rest[letters..];
-        let others = length_of(rest, Class::NoLetters);
-        if letters == 0 && others == 0 {
-            return false;
-        }
-        rest = &rest[others..];
+        let others = from_place(rest, letters);
+        rest = from_place(others, sign_size(others));
     }
     false
 }
@@ -177,6 +248,8 @@ pub enum Topic {
     Repetition,
     /// Moves that belong into others.
     Insertion,
+    /// Moves that are others than those written.
+    Correction,
     /// Moves that are written by signs that aren't read.
     Unread,
 }
@@ -198,7 +271,9 @@ pub fn first_topic(text: &[u8], before: &[u8]) -> Option<Topic> {
         Some(Topic::Side)
     } else if fits_one_of(text, REPETITIONS, false) {
         Some(Topic::Repetition)
-    } else if fits_one_of(word, CORRECTIONS, true) || begins_insertion(text, is_beyond) {
+    } else if begins_correction(text, word) {
+        Some(Topic::Correction)
+    } else if is_word(word, b"ins") || begins_insertion(text, is_beyond) {
         Some(Topic::Insertion)
     } else if fits_one_of(text, LINKS, false) || is_unread(text, word, before.is_empty()) {
         Some(Topic::Unread)
@@ -219,12 +294,14 @@ const SIDES_BEYOND: &[u8] =
 /// Letters by which solvers say that moves are made several times.
 const REPETITIONS: &[u8] = b"twice,thrice,times,again,once more,repeat";
 
-/// Letters by which solvers say that moves belong into others or in their place, or that others belong into these.
+/// Letters by which solvers say that moves belong into others, or that others belong into these.
 const INSERTIONS: &[u8] =
-    b"inser,einf,wstaw,instead,should be,must be,replac,correct,oops,skele,squel,esquel,schele,between,corner cycle,edge cycle";
+    b"inser,einf,wstaw,replac,skele,squel,esquel,schele,between,corner cycle,edge cycle";
 
-/// Words by which solvers say the same.
-const CORRECTIONS: &[u8] = b"ins,edit,update,typo,mistake";
+/// Letters by which solvers say that moves are others than those written, and words by which they do.
+const CORRECTIONS: &[u8] = b"instead,should be,must be,correct,oops,mistake,typo";
+
+const CORRECTION_WORDS: &[u8] = b"edit,update";
 
 /// How a link begins, or the moves in one.
 const LINKS: &[u8] = b"http,www.,alg=";
@@ -298,6 +375,11 @@ pub fn is_normal_side(text: &[u8], before: &[u8]) -> bool {
     word_length(text, b"side") > 0 && word_length(normal, b"normal") > 0
 }
 
+/// Whether a text begins with letters that say so, or with such a word.
+fn begins_correction(text: &[u8], word: &[u8]) -> bool {
+    fits_one_of(text, CORRECTIONS, false) || fits_one_of(word, CORRECTION_WORDS, true)
+}
+
 /// Whether a text begins with letters that say so.
 fn begins_insertion(text: &[u8], is_beyond: bool) -> bool {
     let words = if is_beyond {
@@ -306,20 +388,4 @@ fn begins_insertion(text: &[u8], is_beyond: bool) -> bool {
         INSERTIONS
     };
     fits_one_of(text, words, false)
-}
-
-/// How many bytes the word has that stands before each of several scrambles, if a text begins with one; else 0.
-pub fn head_word_length(text: &[u8]) -> usize
-    ensures fits { result ≤ length text.now }
-    ensures word { 0 < result → Contains words_of_head (map small (take result text.now)) }
-{
-    if text.is_empty() {
-        return 0;
-    }
-    match small(text[0]) {
-        b's' => word_length(text, b"scramble"),
-        b'a' => word_length(text, b"attempt"),
-        b'e' => word_length(text, b"extra"),
-        _ => 0,
-    }
 }

@@ -1,5 +1,6 @@
-use Rattle.std.proofs.Common.{◌≡◌, ◌-◌, ◌≤◌, length, take, drop}
-use Rattle.niss_text.specs.Lines.{Covers, Counts, Takes, AreNumbered, Begins, BeginNumbered}
+use Rattle.std.proofs.Common.{◌≡◌, ℕ, ◌-◌, ◌≤◌, length, take, drop, slice_range}
+use Rattle.niss_text.specs.Lines.{Covers, Counts, Takes, Remain, AreNumbered, Begins, BeginNumbered}
+use Rattle.niss_text.specs.Groups.{AreGrouped, AreBelow}
 use Rattle.niss_text.proofs.attempts.put_attempts.Given as goal
 
 abbrev pub invariant-loop-at : goal.invariant-loop-at
@@ -10,8 +11,11 @@ invariant-loop-at l = record {
   more : l.fn.so_far.lines ≤ l.count;
   few : l.count ≤ l.at;
   covers : Covers l.text 0 (take l.fn.so_far.lines l.initial.lines) l.fn.so_far.at → l.count ≤ length l.lines → Covers l.text 0 (take l.count l.lines) l.at;
-  takes : Takes l.text 0 (take l.fn.so_far.lines l.initial.lines) l.fn.so_far.at → l.count ≤ length l.lines → Takes l.text 0 (take l.count l.lines) l.at;
+  takes : (from first : ℕ) → first ≤ l.fn.so_far.lines → Takes l.text from (slice_range l.initial.lines first l.fn.so_far.lines) l.fn.so_far.at →
+      l.count ≤ length l.lines → Takes l.text from (slice_range l.lines first l.count) l.at;
+  kept : take l.fn.so_far.lines l.lines ≡ take l.fn.so_far.lines l.initial.lines;
   counts : Counts l.text 0 l.fn.so_far.lines l.fn.so_far.at → Counts l.text 0 l.count l.at;
+  remain : (all : ℕ) → Remain l.text all l.fn.so_far.lines l.fn.so_far.at l.end → Remain l.text all l.count l.at l.end;
   numbered : l.fn.so_far.attempts ≤ l.fn.so_far.at → l.attempts ≤ l.at;
   numbers : AreNumbered 0 (take l.fn.so_far.lines l.initial.lines) l.fn.so_far.attempts → l.fn.so_far.attempts ≤ l.fn.so_far.at → l.count ≤ length l.lines →
       AreNumbered 0 (take l.count l.lines) l.attempts;
@@ -19,6 +23,8 @@ invariant-loop-at l = record {
       Begins l.text (take l.fn.so_far.lines l.initial.lines) → Begins l.text (take l.count l.lines);
   in_order : (l.fn.so_far.lines ≤ length l.initial.lines → AreNumbered 0 (take l.fn.so_far.lines l.initial.lines) l.fn.so_far.attempts) →
       l.fn.so_far.attempts ≤ l.fn.so_far.at → BeginNumbered (take l.fn.so_far.lines l.initial.lines) → BeginNumbered (take l.count l.lines);
+  groups : l.fn.so_far.attempts ≤ l.fn.so_far.at → AreBelow l.fn.so_far.attempts (take l.fn.so_far.lines l.initial.lines) →
+      AreGrouped (take l.fn.so_far.lines l.initial.lines) → AreBelow l.attempts (take l.count l.lines) × AreGrouped (take l.count l.lines);
   behind : drop l.count l.lines ≡ drop l.count l.initial.lines;
 }
 

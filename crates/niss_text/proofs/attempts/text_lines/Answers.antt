@@ -1,4 +1,7 @@
-use Rattle.std.proofs.Common.{◌≡◌, ℕ, List, take, length, subst, sym, arith}
+use Rattle.std.proofs.Common.{◌≡◌, ◌<◌, ℕ, List, take, length, subst, sym, arith}
+use Rattle.std.proofs.lemmas.List.Elements.{All-nil}
+use Rattle.niss_text.specs.Groups.{AreGrouped, AreBelow}
+use Rattle.niss_text.proofs.GroupedLines.{grouped_none}
 use Rattle.niss_text.specs.Lines.{Covers, Counts, AreNumbered}
 use Rattle.niss_text.proofs.LineLemmas.{covers_none, counts_none, numbered_none}
 use Rattle.niss_text.specs.declared.text_line.TextLine.{TextLine}
@@ -57,3 +60,12 @@ returns-clause-in_order c =
     let begun : AreNumbered 0 (take c.nothing.result.lines lines) c.nothing.result.attempts =
     subst (λ (n : ℕ). AreNumbered 0 (take n lines) c.nothing.result.attempts) none (subst (λ (n : ℕ). AreNumbered 0 (take 0 lines) n) begin numbered_none) in
     c.put_attempts-read.ensures.in_order (λ fits. begun) (omega (arith, begin)) (c.nothing.result.attempts, begun)
+
+pub returns-clause-groups : goal.returns-clause-groups
+returns-clause-groups c =
+    let lines : List TextLine = c.args.lines.now in
+    let none : 0 ≡ c.nothing.result.lines = sym c.nothing.ensures.1.0 in
+    let begin : 0 ≡ c.nothing.result.attempts = sym c.nothing.ensures.1.1 in
+    c.put_attempts-read.ensures.groups (omega (arith, begin))
+    (subst (λ (n : ℕ). AreBelow c.nothing.result.attempts (take n lines)) none (All-nil (λ (l : TextLine). l.attempt < c.nothing.result.attempts)))
+    (subst (λ (n : ℕ). AreGrouped (take n lines)) none grouped_none)

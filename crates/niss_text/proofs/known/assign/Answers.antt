@@ -1,6 +1,7 @@
 use Rattle.std.proofs.Common.{length, refl, arith, rules}
 use Rattle.niss_text.proofs.KnownLemmas.{IsTold, IsFull, known_none, known_next, lines_stay, own_in_order, own_by_number, full_in_order, full_by_number, each_next, rest_next, are_apart, are_assigned}
 use Rattle.niss_text.proofs.NameLemmas.{named_next}
+use Rattle.niss_text.proofs.TellLemmas.{parts_stay}
 use Rattle.niss_text.proofs.known.assign.Goals.{then-is_in_order, else-is_in_order}
 use Rattle.niss_text.proofs.known.assign.Goals as goal
 
@@ -12,6 +13,7 @@ loop-at-init c = record {
   own = λ k none lt. absurd (omega (arith, lt));
   all = λ k none lt. absurd (omega (arith, lt));
   named = λ k none. (refl, refl);
+  told = λ text told to far. far;
   lines = λ to far. far;
 }
 
@@ -39,6 +41,7 @@ loop-at-preserved c =
       own = each_next (λ k s. IsTold c.args.is_in_order c.args.parts.now c.count_numbers.new.counts k s) c.loop-at.parts c.loop-at.at _ c.loop-at-test.true inv.own own;
       all = each_next (λ k s. IsFull c.args.is_in_order c.args.parts.now c.count_numbers.new.counts k s) c.loop-at.parts c.loop-at.at _ c.loop-at-test.true inv.all all;
       named = named_next c.args.parts.now c.loop-at.parts c.loop-at.at c.scramble_of.result _ c.loop-at-test.true inv.named;
+      told = λ text told to far. parts_stay text told 0 c.loop-at.parts to c.loop-at.at c.scramble_of.result _ (inv.told text told to far);
       lines = λ to far. lines_stay 0 c.loop-at.parts to c.loop-at.at c.scramble_of.result _ (inv.lines to far);
     }
 

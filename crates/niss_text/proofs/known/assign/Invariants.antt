@@ -1,6 +1,7 @@
-use Rattle.std.proofs.Common.{◌≡◌, ◌-◌, ◌<◌, ◌≤◌, ◌⊎◌, ℕ, length, get_or, take}
+use Rattle.std.proofs.Common.{◌≡◌, ◌-◌, ◌<◌, ◌≤◌, ◌⊎◌, ℕ, List, length, get_or, take}
 use Rattle.niss_text.specs.declared.known.KnownPart.{KnownPart}
-use Rattle.niss_text.specs.Known.{AreKnown, AreNamedAs, HaveLines, IsOwn}
+use Rattle.niss_text.specs.declared.text_line.TextLine.{TextLine}
+use Rattle.niss_text.specs.Known.{AreKnown, AreNamedAs, HaveLines, IsOwn, PartsTake}
 use Rattle.niss_text.proofs.KnownLemmas.{IsFull}
 use Rattle.niss_text.proofs.known.assign.Given as goal
 
@@ -13,6 +14,7 @@ invariant-loop-at l = record {
       ⊎ IsOwn l.is_in_order l.initial.parts l.counts k (get_or l.parts k none).scramble;
   all : (k : ℕ) (none : KnownPart) → k < l.at → IsFull l.is_in_order l.initial.parts l.counts k (get_or l.parts k none).scramble;
   named : AreNamedAs l.initial.parts l.parts;
+  told : (text : List ℕ) (told : List TextLine) (to : ℕ) → PartsTake text told 0 l.initial.parts to → PartsTake text told 0 l.parts to;
   lines : (to : ℕ) → HaveLines 0 l.initial.parts to → HaveLines 0 l.parts to;
 }
 

@@ -4,6 +4,8 @@ use Rattle.niss_text.specs.Kept.{IsTitleEnd}
 use Rattle.niss_text.proofs.KeptLemmas.{blank_title, whole_title, part_long}
 use Rattle.niss_text.proofs.WordLemmas.{comment_begins}
 use Rattle.niss_text.proofs.CommentLemmas.{parts_plain}
+use Rattle.niss_text.proofs.SaidLemmas.{no_slashes}
+use Rattle.niss_text.proofs.FrontLemmas.{labelled}
 use Rattle.std.proofs.lemmas.List.{get_or-drop}
 use Rattle.niss_text.proofs.line_parts.parts_of.Goals.{then-words-eq0, else-words-eq0, then-span-eq0, else-span-eq0}
 use Rattle.niss_text.proofs.line_parts.parts_of.Goals as goal
@@ -55,8 +57,40 @@ returns-clause-comment c =
     (λ lt. sym (get_or-drop head line c.comment_at.result 0) ∙ ap (λ v. get_or v c.comment_at.result 0) (sym is)
     ∙ c.comment_at.ensures.slash (omega (arith, lt, ap length is, length-drop head line))) c.span_of-span.ensures.tail
 
+pub returns-clause-uncommented : goal.returns-clause-uncommented
+returns-clause-uncommented c =
+    let line : List ℕ = c.args.line.now in
+    let head : ℕ = c.args.head in
+    let begin : ℕ = head + c.numbering.result in
+    let body : ℕ = begin + c.title_of-words.result.1 in
+    let slashes : ℕ = head + c.comment_at.result in
+    let first : c.numbering.result ≤ slashes - head = omega (arith, c.numbering.ensures.fits, part_long line head slashes) in
+    let second : c.title_of-words.result.1 ≤ slashes - begin = omega (arith, c.title_of-words.ensures.fits, part_long line begin slashes) in
+    no_slashes line c.from_place.result.now head c.comment_at.result (body + c.span_of-span.result.begin + c.blanks.result)
+    (body + c.span_of-span.result.end) c.from_place.ensures c.comment_at.ensures.first (omega arith)
+    (omega (arith, first, second, c.span_of-span.ensures.fits, part_long line body slashes))
+
 pub returns-clause-plain : goal.returns-clause-plain
 returns-clause-plain c = λ count top before.
     parts_plain c.args.line.now c.from_place.result.now c.args.head c.comment_at.result c.numbering.result c.title_of-words.result.1 c.blanks.result
     count c.span_of-span.result.begin c.span_of-span.result.end c.span_of-span.result.is_moves top before c.from_place.ensures c.comment_at.ensures.first
     c.comment_at.ensures.slash c.numbering.ensures.begin c.title_of-words.ensures.plain c.span_of-span.ensures.plain c.blanks.ensures.empty
+
+pub returns-clause-labelled : goal.returns-clause-labelled
+returns-clause-labelled c =
+    let line : List ℕ = c.args.line.now in
+    let head : ℕ = c.args.head in
+    let begin : ℕ = head + c.numbering.result in
+    let words : ℕ = c.title_of-words.result.0 in
+    let title : ℕ = c.title_of-words.result.1 in
+    let span = c.span_of-span.result in
+    let slashes : ℕ = head + c.comment_at.result in
+    let rest : List ℕ = c.from_place.result.now in
+    let is : rest ≡ drop head line = c.from_place.ensures in
+    let within : slashes ≤ length line = omega (arith, c.comment_at.ensures.fits, ap length is, length-drop head line, c.requires) in
+    let first : c.numbering.result ≤ slashes - head = omega (arith, c.numbering.ensures.fits, part_long line head slashes) in
+    let second : title ≤ slashes - begin = omega (arith, c.title_of-words.ensures.fits, part_long line begin slashes) in
+    labelled line begin words title slashes span.begin span.end c.blanks.result (omega (arith, first)) within c.title_of-words.ensures.order second
+    (λ lt. sym (get_or-drop head line c.comment_at.result 0) ∙ ap (λ v. get_or v c.comment_at.result 0) (sym is)
+    ∙ c.comment_at.ensures.slash (omega (arith, lt, ap length is, length-drop head line)))
+    c.title_of-words.ensures.none c.title_of-words.ensures.colon c.span_of-span.ensures.front c.blanks.ensures.empty c.blanks.ensures.fits

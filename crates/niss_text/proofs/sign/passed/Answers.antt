@@ -3,8 +3,9 @@ use Rattle.std.proofs.lemmas.Bool.{not-true}
 use Rattle.niss_text.proofs.SignLemmas.{skipped, worded}
 use Rattle.niss_text.proofs.KeptLemmas.{passed_so_far, passed_none, passed_signs}
 use Rattle.niss_text.proofs.SpacingLemmas.{signs_one, spaced}
-use Rattle.niss_text.specs.Signs.{is_of_moves, is_spacing, is_skipped, ends_word, parts_words}
+use Rattle.niss_text.specs.Signs.{is_of_moves, is_of_letters, is_spacing, is_skipped, ends_word, parts_words}
 use Rattle.niss_text.proofs.TurnLemmas.{turns_more}
+use Rattle.niss_text.proofs.SaidLemmas.{letters_more}
 use Rattle.niss_text.proofs.sign.passed.Goals as goal
 
 pub loop-class-preserved : goal.loop-class-preserved
@@ -28,4 +29,7 @@ loop-class-preserved c =
       turns = λ is all. turns_more text rest (length text - length rest) (length text - length next) sign.result.length (is_skipped sign.result.kind)
           (ends_word sign.result.kind) inv.rest (omega (arith, sign.ensures.some, sign.ensures.fits)) (omega (arith, far.0, inv.fits))
           (not-true (ends_word sign.result.kind) (sym (c.has.ensures.no_blanks is) ∙ c.if-not-has.false)) sign.ensures.turn sign.ensures.blank all (inv.turns is all);
+      letters = λ is. letters_more text rest (length text - length rest) (length text - length next) sign.result.length (is_of_letters sign.result.kind)
+          inv.rest (omega (arith, sign.ensures.some, sign.ensures.fits)) (omega (arith, far.0, inv.fits))
+          (sym (c.has.ensures.letters is) ∙ c.if-not-has.false) sign.ensures.letter (inv.letters is);
     }

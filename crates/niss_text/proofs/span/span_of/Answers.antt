@@ -1,5 +1,5 @@
-use Rattle.std.proofs.Common.{◌≡◌, ℕ, List, ◌+◌, ◌-◌, ◌≤◌, length, true, false, subst, arith}
-use Rattle.std.proofs.lemmas.Bool.{false_from_ne_true}
+use Rattle.std.proofs.Common.{◌≡◌, ℕ, List, ◌+◌, ◌-◌, ◌≤◌, inl, inr, length, drop, true, false, ap, ◌∙◌, subst, arith}
+use Rattle.std.proofs.lemmas.Bool.{cases_lt, false_from_ne_true}
 use Rattle.niss_text.specs.Kept.{begins_with_move, IsNoMove}
 use Rattle.niss_text.specs.declared.word.Word.TheVariants.{Move}
 use Rattle.niss_text.proofs.KeptLemmas.{passed_so_far}
@@ -27,4 +27,12 @@ loop-rest-preserved c =
       name = subst (λ n. c.after-frame.result.name ≤ n) there (after.name inv.name);
       tail_is = after.tail_is line inv.tail_is inv.open_is none;
       open_is = after.open_is line inv.open_is none;
+      moved = λ is some. elim (cases_lt 0 begin) [
+        | inl lt ↦ let so = inv.moved is lt in let stays = after.stays so.0 in (stays.0, stays.1 ∙ so.1)
+        | inr le ↦
+            let top : begin ≡ 0 = omega (arith, le) in
+            let whole : rest ≡ line = inv.rest ∙ ap (λ n. drop n line) top in
+            let moved = after.moved (word.ensures.single (ap begins_with_move whole ∙ is)) in
+            (moved.0, omega (arith, moved.1, inv.lead, top))
+      ];
     }

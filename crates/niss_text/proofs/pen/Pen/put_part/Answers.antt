@@ -38,19 +38,20 @@ loop-rest-preserved c =
     let short : count ≤ 3 = c.written-count.ensures.short in
     let long : length w ≡ count = length-take-le count c.written-count.result.0 (omega arith) in
     let at : ℕ = c.args.from.at + (length part - length rest) in
-    let one = one_more part rest c.args.from (take begun c.args.out.now) (take far out) (take begun c.args.places.now) (take far places) c.loop-rest.gone
-    kind n at w inv.read first (λ among. c.first_piece-piece.ensures.untitled (inv.among among)) is refl in
+    let one = one_more part rest c.args.from c.loop-rest.place c.after-place.result (take begun c.args.out.now) (take far out) (take begun c.args.places.now) (take far places) c.loop-rest.gone
+    kind n at w inv.read first (λ among. c.first_piece-piece.ensures.untitled (inv.among among))
+    c.first_piece-piece.ensures.number c.after-place.ensures.begin is refl in
     let left : length c.behind_piece-rest.result.now ≡ length rest - n = ap length c.behind_piece-rest.ensures ∙ length-drop n rest in
     let room : count ≤ c.min-room.result - far = c.if-room-pen.false in
     record {
-      read = so_far_is part c.args.from (take begun c.args.out.now) (take begun c.args.places.now)
+      read = so_far_is part c.args.from c.after-place.result (take begun c.args.out.now) (take begun c.args.places.now)
           (drop n rest) (take far out ++ w) (take far places ++ replicate (length w) at)
           c.behind_piece-rest.result.now (take (far + count) c.put_bytes.new.out) (take (far + count) c.put_places.new.places)
           (both c.loop-rest.gone (left_of kind)) c.and-gone.result
           c.behind_piece-rest.ensures c.put_bytes.ensures.written
           (c.put_places.ensures.written ∙ ap (λ k. take far places ++ replicate k at) (sym long))
           (c.and-gone.ensures ∙ ap (λ v. both c.loop-rest.gone v) c.of.ensures) one;
-      among = λ among. c.after-place.ensures (inv.among among);
+      among = λ among. c.after-place.ensures.among (inv.among among);
       left = omega (arith, left, inv.left);
       had = inv.had;
       fits = omega (arith, room, inv.fits);

@@ -5,7 +5,7 @@ use Rattle.niss_text.proofs.pen.Pen.put_part.Given as goal
 
 abbrev pub invariant-loop-rest : goal.invariant-loop-rest
 invariant-loop-rest l = record {
-  read : SoFar l.part l.rest l.from (take l.fn.self.length l.initial.out) (take l.pen.length l.out) (take l.fn.self.length l.initial.places)
+  read : SoFar l.part l.rest l.from l.place (take l.fn.self.length l.initial.out) (take l.pen.length l.out) (take l.fn.self.length l.initial.places)
       (take l.pen.length l.places) l.gone;
   among : l.from.place ≡ Among → l.place ≡ Among;
   left : length l.rest ≤ length l.part;

@@ -1,7 +1,7 @@
 use Rattle.std.proofs.Common.{ℕ, List, ◌≡◌, ◌+◌, take, subst, arith}
 use Rattle.niss_text.specs.Kept.{HasOnlyWords, words_of_head}
 use Rattle.niss_text.proofs.KeptLemmas.{only_begin, only_moves, only_then}
-use Rattle.niss_text.proofs.line.head_of.Goals as goal
+use Rattle.niss_text.proofs.heads.head_of.Goals as goal
 
 pub returns-then-word-gt0-clause-words : goal.returns-then-word-gt0-clause-words
 returns-then-word-gt0-clause-words c =

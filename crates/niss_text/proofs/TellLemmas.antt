@@ -1,0 +1,69 @@
+-- One more part of a text, with the lines that are told of it.
+use Rattle.std.proofs.Common.{◌≡◌, ℕ, zero, suc, ◌+◌, ◌-◌, ◌<◌, ◌≤◌, ◌⊎◌, List, [], ◌∷◌, ◌++◌, length, take, drop, set, get_or, slice_range, sym, subst, ap, ◌∙◌, arith}
+use Rattle.std.proofs.lemmas.List.{drop-take, take_more_set}
+use Rattle.niss_text.specs.declared.known.KnownPart.{KnownPart}
+use Rattle.niss_text.specs.declared.text_line.TextLine.{TextLine}
+use Rattle.niss_text.specs.Lines.{HasNoneBetween, Takes}
+use Rattle.niss_text.proofs.LineLemmas.{fewer_kept}
+use Rattle.niss_text.proofs.PassedLemmas.{between_on, none_between}
+unfoldable use Rattle.niss_text.specs.Known.{HaveLines, PartsTake}
+
+pub parts_none : (text : List ℕ) (lines : List TextLine) (at : ℕ) → PartsTake text lines at [] at
+unfolding PartsTake
+parts_none text lines at = none_between text at
+
+parts_more : (text : List ℕ) (lines : List TextLine) (from : ℕ) (parts : List KnownPart) (to : ℕ) (part : KnownPart) (end : ℕ) → PartsTake text lines from parts to →
+    HasNoneBetween text to part.begin → (part.name_end ≡ 0) ⊎ ((part.begin ≤ part.name_begin) × (part.name_end ≤ end)) →
+    Takes text part.begin (slice_range lines part.first_line part.end_line) end → PartsTake text lines from (parts ++ part ∷ []) end
+unfolding PartsTake
+parts_more text lines from [] to part end far before named takes = (end, between_on text from to part.begin far before, named, takes, none_between text end)
+parts_more text lines from (p ∷ ps) to part end far before named takes =
+    (far.0, far.1, far.2, far.3, parts_more text lines far.0 ps to part end far.4 before named takes)
+
+-- the same in memory
+pub parts_next : (text : List ℕ) (lines : List TextLine) (from : ℕ) (parts : List KnownPart) (count to : ℕ) (part : KnownPart) (end : ℕ) → count < length parts →
+    PartsTake text lines from (take count parts) to → HasNoneBetween text to part.begin → (part.name_end ≡ 0) ⊎ ((part.begin ≤ part.name_begin) × (part.name_end ≤ end)) →
+    Takes text part.begin (slice_range lines part.first_line part.end_line) end → PartsTake text lines from (take (count + 1) (set parts count part)) end
+parts_next text lines from parts count to part end room far before named takes =
+    subst (λ (ps : List KnownPart). PartsTake text lines from ps end) (sym (take_more_set parts count part room))
+    (parts_more text lines from (take count parts) to part end far before named takes)
+
+-- what follows has no moves
+pub parts_further : (text : List ℕ) (lines : List TextLine) (from : ℕ) (parts : List KnownPart) (to more : ℕ) → PartsTake text lines from parts to →
+    HasNoneBetween text to more → PartsTake text lines from parts more
+unfolding PartsTake
+parts_further text lines from [] to more far next = between_on text from to more far next
+parts_further text lines from (p ∷ ps) to more far next = (far.0, far.1, far.2, far.3, parts_further text lines far.0 ps to more far.4 next)
+
+lines_order : (from : ℕ) (parts : List KnownPart) (to : ℕ) → HaveLines from parts to → from ≤ to
+unfolding HaveLines
+lines_order from [] to same = omega (arith, same)
+lines_order from (p ∷ ps) to far = omega (arith, far.1, far.2, lines_order p.end_line ps to far.3)
+
+slice_kept : {Item : Type 0} (old new : List Item) (a b n : ℕ) → a ≤ b → b ≤ n → take n new ≡ take n old → slice_range old a b ≡ slice_range new a b
+slice_kept old new a b n order low same =
+    let split : a + (b - a) ≡ b = omega (arith, order) in
+    sym (drop-take a (b - a) old) ∙ ap (λ k. drop a (take k old)) split ∙ ap (λ v. drop a v) (sym (fewer_kept new old b n low same))
+    ∙ ap (λ k. drop a (take k new)) (sym split) ∙ drop-take a (b - a) new
+
+-- the lines of parts stay where more are told
+pub parts_kept : (text : List ℕ) (old new : List TextLine) (from : ℕ) (parts : List KnownPart) (to first n : ℕ) → HaveLines first parts n → take n new ≡ take n old →
+    PartsTake text old from parts to → PartsTake text new from parts to
+unfolding HaveLines PartsTake
+parts_kept text old new from [] to first n have same far = far
+parts_kept text old new from (p ∷ ps) to first n have same far = (
+  far.0,
+  far.1,
+  far.2,
+  subst (λ (ls : List TextLine). Takes text p.begin ls far.0)
+      (slice_kept old new p.first_line p.end_line n (omega (arith, have.0, have.1, have.2)) (lines_order p.end_line ps n have.3) same) far.3,
+  parts_kept text old new far.0 ps to p.end_line n have.3 same far.4,
+)
+
+-- A part that is said to be of another scramble has the same lines.
+pub parts_stay : (text : List ℕ) (lines : List TextLine) (from : ℕ) (parts : List KnownPart) (to at scramble : ℕ) (none : KnownPart) → PartsTake text lines from parts to →
+    PartsTake text lines from (set parts at (record (get_or parts at none) { scramble = scramble })) to
+unfolding PartsTake
+parts_stay text lines from [] to at scramble none far = far
+parts_stay text lines from (p ∷ ps) to zero scramble none far = far
+parts_stay text lines from (p ∷ ps) to (suc at) scramble none far = (far.0, far.1, far.2, far.3, parts_stay text lines far.0 ps to at scramble none far.4)
