@@ -201,27 +201,19 @@ def at_sizes(tally: Tally, browser: Browser) -> None:
 
 
 def draws_once(tally: Tally, browser: Browser) -> None:
-    """For a list that opens, whose first row has the focus, and for a step, after which a cell has it, the nets are drawn once."""
+    """For a list that opens, whose first row has the focus, the nets are drawn once; after a step for its cube, and for the cell that has the focus."""
     drawn = """window.drawn = 0;
         const net = document.querySelector("#net-normal .net");
         new MutationObserver((all) => { window.drawn += all.length; }).observe(net, { attributeFilter: ["aria-label"] })"""
     count = "return [window.drawn, window.drawn = 0][0]"
     browser.resize()
-    # the cube alone is drawn before, if the steps after it take long, as where their tables are still to be built
-    script = browser.before_page(PATIENT)
     browser.open(SCRAMBLE)
+    browser.wait_best()
     browser.script(drawn)
-    for is_ready in (False, True):
-        browser.go(SCRAMBLE)
+    for what, selector, most in (("a list", '[data-cell="eorl.normal"]', 1), ("a step", "#solutions-groups .take", 2)):
+        browser.act(selector)
         browser.wait_best()
-        browser.script(count)
-        for what, selector in (("a list", '[data-cell="eorl.normal"]'), ("a step", "#solutions-groups .take")):
-            browser.act(selector)
-            browser.wait_best()
-            times = browser.script(count)
-            tally.holds(f"how often {what} draws the nets: {times}", times == 1 or not is_ready)
-    browser.no_longer(script)
-    browser.open()
+        tally.equal(f"how often {what} draws the nets", browser.script(count), most)
 
 
 def waits(tally: Tally, browser: Browser) -> None:

@@ -11,7 +11,7 @@ import { DeskStrip, type Keeping } from "./cards/scrambles-on-desk.js";
 import { KeptCandidates } from "./cards/kept.js";
 import { LineSoFar } from "./cards/line.js";
 import { asCopied, withOthers } from "./state/kept-lines.js";
-import { Seen, WayBack, dropAddress, keepInEntry, placeIn, placeNow } from "./state/history.js";
+import { Seen, WayBack, dropAddress, keepPlace, placeIn } from "./state/history.js";
 import { refreshRows, type StarActs } from "./shared/rows.js";
 import { ScrambleField, type ScrambleChange } from "./cards/scramble.js";
 import { SolutionList } from "./cards/solutions.js";
@@ -158,14 +158,13 @@ export class Page {
   #change(change: Partial<State>, { focusNext, isStep = "parts" in change, ...ofScramble }: ChangeOptions = {}) {
     this.#nextFocus.set(focusNext);
     this.#wayBack.set(null);
-    const place = "parts" in change ? placeNow() : null;
+    if ("parts" in change) keepPlace();
     this.#state = { ...this.#state, ...("parts" in change ? { list: null } : {}), ...change };
     const isOther = "scramble" in change || "parts" in change || this.#isReading;
     if (isOther) tell(part("alert"), "");
     // the engine is asked first, and answers meanwhile
     if (isOther) this.#refresh();
     else this.#showList();
-    if (place) keepInEntry(place);
     this.#desk.keep(this.#state, { isStep, ...ofScramble });
     if (isOther) return;
     this.#line.turnTo(this.#state.side);
@@ -239,8 +238,6 @@ export class Page {
     showBeginning(this.#state);
     if ("unread" in cube) return setUsable(false);
     const shown = this.#showCube(cube, isAtTop);
-    // else it is drawn once, with the marks of what has the focus then
-    if (!isWhole) this.#nets.draw();
     const steps = await offers;
     if (turn !== this.#turn) return;
     this.#showOffers(shown, steps);
@@ -292,18 +289,15 @@ export class Page {
   }
 
   async #showAnswered(turn: number, { reached }: CubeOfLine, isAtTop: boolean) {
-    const { list, parts } = this.#state;
     // a list that is looked for takes the focus itself, and says what it has
     const isOfList = this.#nextFocus.waitsFor("list");
-    if (list) this.#nets.follow(stateOf(stepNamed(list.step)));
     const shown = this.#showList();
     if (part("choices").inert) await this.#nextFocus.isSoon(shown);
     if (turn !== this.#turn) return;
     part("choices").inert = false;
     if (isOfList) return;
-    const [isFinished, isOfTable] = [isReduced(reached) && parts.length > 0, this.#nextFocus.take("table")];
-    if (!list) this.#nets.draw(isOfTable && !isFinished ? this.#table.first : null);
-    if (isOfTable) showStart(isFinished, this.#table, isAtTop);
+    const isFinished = isReduced(reached) && this.#state.parts.length > 0;
+    if (this.#nextFocus.take("table")) showStart(isFinished, this.#table, isAtTop);
     else if (!isBare(this.#state)) announceLater(this.#table.summary());
     this.#table.giveBack();
     this.#goBack();
@@ -317,6 +311,7 @@ export class Page {
   async #showList() {
     const { list } = this.#state;
     if (list && !this.#cube) return;
+    if (!list) this.#nets.follow("");
     const name = list ? [this.#turn, list.step, list.side, list.slack, list.isAll].join(" ") : "";
     const isShown = await this.#list.show(name, list, this.#cube);
     if (!list || !isShown || !name.startsWith(`${this.#turn} `)) return;
@@ -354,7 +349,6 @@ export class Page {
     if (!list) return;
     const isWithin = part("solutions").contains(document.activeElement);
     this.#change({ list: change === null ? null : { ...list, ...change } });
-    if (change === null) this.#nets.follow("");
     if (change === null && isWithin) (this.#table.cell(`${list.step}.${list.side}`) ?? part("steps-heading")).focus();
   }
 

@@ -46,12 +46,6 @@ function looksOf(walk: Walk): { made: number; goal: string }[] {
   });
 }
 
-/** What is marked while a part of the page is pointed at, or has the focus. */
-function marksAt(target: Element | null) {
-  const marked = target?.closest("[data-marks]");
-  return marked instanceof HTMLElement ? marked.dataset.marks ?? "" : "";
-}
-
 /** Each move in an element of its own. */
 const moveByMove = (moves: string) => moves.split(/([^ ()]+)/).map((word, at) =>
   (at % 2 === 0 ? word : element("span", { class: "move" }, word)));
@@ -108,7 +102,7 @@ export class Nets {
     part("play-on").addEventListener("click", () => this.#step(1));
   }
 
-  /** Takes a cube to be drawn, and the line that leads to it from the scramble. @param ask for it after each move */
+  /** Shows a cube, and the line that leads to it from the scramble. @param ask for the cube after each move */
   show(views: Record<Side, View>, walk: Walk, ask: () => Promise<Frame[]>) {
     this.stop();
     // a list marks once it is there
@@ -121,11 +115,6 @@ export class Nets {
     [this.#ask, this.#frames] = [ask, null];
     part("player").hidden = this.#last === 0;
     part("piece").value = "";
-  }
-
-  /** Draws it, with the marks of what is about to have the focus, so that it is drawn once. */
-  draw(focused: Element | null = null) {
-    this.#pointed = marksAt(focused);
     this.#draw();
   }
 
@@ -182,7 +171,8 @@ export class Nets {
   }
 
   #point(target: Element | null) {
-    const pointed = marksAt(target);
+    const marked = target?.closest("[data-marks]");
+    const pointed = marked instanceof HTMLElement ? marked.dataset.marks ?? "" : "";
     if (pointed === this.#pointed) return;
     this.#pointed = pointed;
     // what moves the focus may lay the page out for it, and needs no marks for that

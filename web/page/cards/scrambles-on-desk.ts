@@ -3,7 +3,7 @@ import { copy } from "../shared/copying.js";
 import { announce, counted, element, part, tell } from "../shared/element.js";
 import { addressOf, emptyState, type State } from "../state/address.js";
 import { Desk, stateOfBoth, stateOfSheet, textOfDesk, type NewSheet, type Sheet } from "../state/desk.js";
-import { keepInEntry, placeNow, sheetOfEntry, writeState, type Place } from "../state/history.js";
+import { keepPlace, keepSheet, placeNow, sheetOfEntry, writeState, type Place } from "../state/history.js";
 import { tellAt } from "../shared/view.js";
 
 const NOT_KEPT = "This browser keeps nothing of what is done here: take it along by Copy all.";
@@ -56,7 +56,7 @@ export class DeskStrip {
   settle(read: State, state: State) {
     this.#hold(state, false);
     if (addressOf(state) !== addressOf(read)) this.#write(state, false);
-    else keepInEntry({ sheet: this.#desk.shown?.id ?? 0 });
+    else keepSheet(this.#desk.shown?.id ?? 0);
   }
 
   keep(state: State, { isStep, isDrawn = false, isDraft = false }: Keeping) {
@@ -75,9 +75,8 @@ export class DeskStrip {
 
   /** Keeps where one is, since another scramble is about to be shown. */
   leave() {
-    const place = placeNow();
-    keepInEntry(place);
-    this.#desk.leave(place);
+    keepPlace();
+    this.#desk.leave(placeNow());
   }
 
   /** Shows what the desk has of a scramble. */

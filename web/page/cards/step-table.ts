@@ -123,13 +123,10 @@ export class StepTable {
     }
   }
 
-  /** The first of the shortest steps that are left, of one over both sides that of its sides; else the heading. */
-  get first(): HTMLElement {
-    return this.#body.querySelector(".cell.least, tr:has(.chip.least) .cell") ?? part("steps-heading");
-  }
-
+  /** Puts the focus on the first of the shortest steps that are left; of one over both sides on that of its sides. */
   focus() {
-    this.first.focus({ preventScroll: true });
+    const least = this.#body.querySelector<HTMLElement>(".cell.least, tr:has(.chip.least) .cell");
+    (least ?? part("steps-heading")).focus({ preventScroll: true });
   }
 
   /** Presses a cell, if there is one that isn't dimmed. @param at its place among the cells */

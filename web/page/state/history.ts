@@ -26,7 +26,7 @@ export function sheetOfEntry(): number | null {
 }
 
 /** Keeps something more in the entry that is shown. */
-export function keepInEntry(more: Partial<Place & { sheet: number }>) {
+function keepInEntry(more: Partial<Place & { sheet: number }>) {
   try {
     history.replaceState({ ...history.state, ...more }, "", location.href);
   } catch {
@@ -34,6 +34,8 @@ export function keepInEntry(more: Partial<Place & { sheet: number }>) {
   }
 }
 
+export const keepPlace = () => keepInEntry(placeNow());
+export const keepSheet = (sheet: number) => keepInEntry({ sheet });
 
 const AGAIN_AFTER = 1000;
 let writing = 0;
