@@ -195,12 +195,12 @@ static void say_doubt(text of, lines those) {
     while (at < those.count && those.first[at].doubt == NISSY_NO_DOUBT) at++;
     while (stray < those.count && those.first[stray].doubt != NISSY_STEP_OR_SCRAMBLE) stray++;
     if (it.check.status == NISSY_DONE && is_solved) {
-        if (at == those.count && is_solved_by_itself(&it.scramble))
-            say_text(DOUBTS[NISSY_ANOTHER_ATTEMPT]), say_place(of, it.scramble.places[0]);
-        else if (at == those.count)
-            say_another(of, those, &it.scramble);
-        else if (stray < those.count)
+        if (stray < those.count)
             say_text(DOUBTS[NISSY_STEP_OR_SCRAMBLE]), say_place(of, those.first[stray].doubt_at);
+        else if (is_solved_by_itself(&it.scramble))
+            say_text(DOUBTS[NISSY_ANOTHER_ATTEMPT]), say_place(of, it.scramble.places[0]);
+        else
+            say_another(of, those, &it.scramble);
     }
     if (it.check.status == NISSY_DONE && !is_solved) {
         if (at < those.count)
