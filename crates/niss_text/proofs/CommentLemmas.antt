@@ -1,17 +1,17 @@
 -- Plain moves in front of a comment are the moves of their line.
-use Rattle.std.proofs.Common.{◌≡◌, ℕ, zero, suc, ◌+◌, ◌-◌, ◌<◌, ◌≤◌, ◌⊎◌, inl, inr, Bool, true, false, List, [], ◌∷◌, ◌++◌, length, take, drop, get_or, slice_range, refl, sym, subst, ap, ◌∙◌, rules, append_assoc, length-append, arith}
+use Rattle.std.proofs.Common.{◌≡◌, ℕ, zero, suc, ◌+◌, ◌-◌, ◌<◌, ◌≤◌, ◌⊎◌, inl, inr, Bool, true, false, ◌==◌, if◌then◌else◌, List, [], ◌∷◌, ◌++◌, length, take, drop, get_or, slice_range, refl, sym, subst, ap, ◌∙◌, rules, append_assoc, length-append, arith}
 use Rattle.std.proofs.lemmas.Bool.{cases_lt, false≢true}
 use Rattle.std.proofs.lemmas.Bool.Decides.{nat_tests}
 use Rattle.std.proofs.lemmas.List.{get_or-take, length-take-le}
 use Rattle.std.proofs.Math.Seq.{get_or-append_right}
 use Rattle.niss_text.specs.Signs.{HasNoMoves}
 use Rattle.niss_text.specs.Doubts.{is_capital}
-use Rattle.niss_text.specs.Kept.{BeginNoMoves, ArePlain, ArePlainBefore, follows}
+use Rattle.niss_text.specs.Kept.{BeginNoMoves, AreInNotation, ArePlain, ArePlainBefore}
 use Rattle.niss_text.specs.Pieces.{EndsWithColon}
 use Rattle.niss_text.proofs.KeptLemmas.{moves_begin, part_from_start}
 use Rattle.niss_text.proofs.WordLemmas.{beyond}
 unfoldable use Rattle.niss_text.specs.Signs.{is_of_moves, is_colon}
-unfoldable use Rattle.niss_text.specs.Kept.{spells, begins_moves}
+unfoldable use Rattle.niss_text.specs.Kept.{spells, begins_moves, follows_move}
 
 -- a slash or a byte of a colon
 abbrev pub IsForeign : ℕ → Type 0
@@ -22,10 +22,31 @@ foreign_capital b (inl is) capital = grind (arith, nat_tests)
 foreign_capital b (inr (inl is)) capital = grind (arith, nat_tests)
 foreign_capital b (inr (inr is)) capital = grind (arith, nat_tests)
 
-foreign_follows : (a b : ℕ) → IsForeign b → follows a b ≡ true → ⊥
-foreign_follows a b (inl is) far = grind (arith, nat_tests)
-foreign_follows a b (inr (inl is)) far = grind (arith, nat_tests)
-foreign_follows a b (inr (inr is)) far = grind (arith, nat_tests)
+-- what no test makes true
+never_so : (p q r s t : Bool) → (if p then false else if q then false else if r then false else if s then false else if t then false else false) ≡ true → ⊥
+never_so true q r s t is = false≢true is
+never_so false true r s t is = false≢true is
+never_so false false true s t is = false≢true is
+never_so false false false true t is = false≢true is
+never_so false false false false true is = false≢true is
+never_so false false false false false is = false≢true is
+
+slash_strange : (a : ℕ) → follows_move a 47 ≡ true → ⊥
+unfolding follows_move
+slash_strange a far = never_so (a == 226) (a == 128) (a == 32) (a == 40) (a == 41) far
+
+colon_strange : (a : ℕ) → follows_move a 58 ≡ true → ⊥
+unfolding follows_move
+colon_strange a far = never_so (a == 226) (a == 128) (a == 32) (a == 40) (a == 41) far
+
+wide_strange : (a : ℕ) → follows_move a 239 ≡ true → ⊥
+unfolding follows_move
+wide_strange a far = never_so (a == 226) (a == 128) (a == 32) (a == 40) (a == 41) far
+
+foreign_follows : (a b : ℕ) → IsForeign b → follows_move a b ≡ true → ⊥
+foreign_follows a b (inl is) far = slash_strange a (subst (λ n. follows_move a n ≡ true) is far)
+foreign_follows a b (inr (inl is)) far = colon_strange a (subst (λ n. follows_move a n ≡ true) is far)
+foreign_follows a b (inr (inr is)) far = wide_strange a (subst (λ n. follows_move a n ≡ true) is far)
 
 -- plain moves have no such byte
 pub plain_foreign : (bytes : List ℕ) (k : ℕ) → ArePlain bytes → k < length bytes → IsForeign (get_or bytes k 0) → ⊥
@@ -33,7 +54,7 @@ plain_foreign bytes zero plain lt is = foreign_capital (get_or bytes 0 0) is pla
 plain_foreign bytes (suc k) plain lt is =
     let one : k + 1 ≡ suc k = omega arith in
     foreign_follows (get_or bytes k 0) (get_or bytes (suc k) 0) is
-    (subst (λ n. follows (get_or bytes k 0) (get_or bytes n 0) ≡ true) one (plain.each k (omega (arith, lt))))
+    (subst (λ n. follows_move (get_or bytes k 0) (get_or bytes n 0) ≡ true) one (plain.moves.each k (omega (arith, lt))))
 
 -- a byte that isn't 0 stands within a text
 pub stands_within : (text : List ℕ) (k b : ℕ) → get_or text k 0 ≡ b → 0 < b → k < length text
@@ -68,13 +89,13 @@ begin_zero (b ∷ bytes) (suc n) capital none = absurd (never b capital (search 
 pub moves_zero : (line : List ℕ) (n : ℕ) → is_capital (get_or line 0 0) ≡ true → HasNoMoves (take n line) → n ≡ 0
 moves_zero line n capital none = begin_zero line n capital (moves_begin (take n line) none)
 
-pub moves_some : (bytes : List ℕ) → is_capital (get_or bytes 0 0) ≡ true → HasNoMoves bytes → ⊥
+pub moves_some : (bytes : List ℕ) → is_of_moves (get_or bytes 0 0) ≡ true → HasNoMoves bytes → ⊥
 unfolding is_of_moves
-moves_some [] capital none = false≢true capital
-moves_some (b ∷ bytes) capital none = never b capital (search (rules, none))
+moves_some [] is none = false≢true is
+moves_some (b ∷ bytes) is none = never b is (search (rules, none))
   where
-    never : (a : ℕ) → is_capital a ≡ true → is_of_moves a ≡ false → ⊥
-    never a is not = grind (arith, nat_tests)
+    never : (a : ℕ) → is_of_moves a ≡ true → is_of_moves a ≡ false → ⊥
+    never a one none = false≢true (sym none ∙ one)
 
 -- the first byte of a line that begins with plain moves
 pub first_capital : (line : List ℕ) (count : ℕ) → ArePlain (take count line) → is_capital (get_or line 0 0) ≡ true
@@ -142,7 +163,7 @@ pub parts_plain : (line rest : List ℕ) (head at numbering title blanks count b
     rest ≡ drop head line → ((k : ℕ) → get_or rest k 0 ≡ 47 → get_or rest (k + 1) 0 ≡ 47 → at ≤ k) → (at < length rest → get_or rest at 0 ≡ 47) →
     BeginNoMoves (take numbering (slice_range line head (head + at))) →
     (ArePlain (slice_range line (head + numbering) (head + at)) → title ≡ 0) →
-    (ArePlain (slice_range line (head + numbering + title) (head + at)) →
+    (AreInNotation (slice_range line (head + numbering + title) (head + at)) →
     (is_moves ≡ true) × ((begin ≡ 0) × (end ≡ length (slice_range line (head + numbering + title) (head + at))))) →
     HasNoMoves (take blanks (slice_range line (head + numbering + title + begin) (head + numbering + title + end))) →
     (is_moves ≡ true) × ((head + numbering + title + begin + blanks ≡ 0) × (head + numbering + title + end ≡ count))
@@ -176,7 +197,7 @@ parts_plain line rest head at numbering title blanks count begin end is_moves to
     body = front_part line (head + numbering + title) (head + at) count (omega (arith, top, none, untitled)) last
 
     span : (is_moves ≡ true) × ((begin ≡ 0) × (end ≡ length (slice_range line (head + numbering + title) (head + at))))
-    span = spans (subst (λ v. ArePlain v) (sym body) is.moves)
+    span = spans (subst (λ v. AreInNotation v) (sym body) is.moves.moves)
 
     ends : end ≡ count
     ends = span.1.1 ∙ ap length body ∙ long

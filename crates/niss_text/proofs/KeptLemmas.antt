@@ -8,8 +8,7 @@ use Rattle.std.proofs.lemmas.List.Elements.{All-append}
 use Rattle.std.proofs.lemmas.List.Folds.{list_any-append, list_any_none, concat-append}
 use Rattle.niss_text.specs.Signs.{HasNoMoves, AreSigns, is_digit, is_spacing, ends_title, begins_count}
 use Rattle.niss_text.proofs.SpacingLemmas.{signs_none, signs_joined, signs_more, signs_empty, spacing_ends}
-use Rattle.niss_text.specs.Doubts.{is_capital}
-use Rattle.niss_text.specs.Kept.{HasNoLetters, BeginNoMoves, HasOnlyWords, IsCount, IsTitleEnd, LosesNone, ArePlain, follows, words_of_count, words_of_head, small}
+use Rattle.niss_text.specs.Kept.{HasNoLetters, BeginNoMoves, HasOnlyWords, IsCount, IsTitleEnd, LosesNone, words_of_count, words_of_head, small}
 unfoldable use Rattle.niss_text.specs.Signs.{is_of_moves}
 unfoldable use Rattle.niss_text.specs.Kept.{spells, begins_moves}
 
@@ -18,9 +17,11 @@ pub none_joined : (test : ℕ → Bool) (first others : List ℕ) → list_any t
 none_joined test first others none no_other = list_any-append test first others ∙ ap (λ v. v || list_any test others) none ∙ no_other
 
 -- none of the bytes in front of a text, and none of those that follow
-pub none_more : (test : ℕ → Bool) (text : List ℕ) (n m : ℕ) → list_any test (take n text) ≡ false → list_any test (take m (drop n text)) ≡ false →
+pub none_more : (test : ℕ → Bool) (text rest : List ℕ) (n m : ℕ) → list_any test (take n text) ≡ false → rest ≡ drop n text → list_any test (take m rest) ≡ false →
     list_any test (take (n + m) text) ≡ false
-none_more test text n m none no_other = ap (λ v. list_any test v) (take-add n m text) ∙ none_joined test (take n text) (take m (drop n text)) none no_other
+none_more test text rest n m none is no_other =
+    ap (λ v. list_any test v) (take-add n m text)
+    ∙ none_joined test (take n text) (take m (drop n text)) none (subst (λ v. list_any test (take m v) ≡ false) is no_other)
 
 -- so much of a text is passed, and then more of what is left
 pub passed_so_far : (text rest next : List ℕ) (size : ℕ) → length rest ≤ length text → rest ≡ drop (length text - length rest) text → size ≤ length rest → next ≡ drop size rest →
@@ -37,7 +38,7 @@ passed_none test text rest next size fits left within is none no_other =
     let far = passed_so_far text rest next size fits left within is in
     let there : length text - length rest + size ≡ length text - length next = omega (arith, far.0, fits) in
     subst (λ n. list_any test (take n text) ≡ false) there
-    (none_more test text (length text - length rest) size none (subst (λ v. list_any test (take size v) ≡ false) left no_other))
+    (none_more test text rest (length text - length rest) size none left no_other)
 
 pub passed_signs : (test : List ℕ → Bool) (text rest next : List ℕ) (size : ℕ) → length rest ≤ length text → rest ≡ drop (length text - length rest) text →
     size ≤ length rest → next ≡ drop size rest → AreSigns test (take (length text - length rest) text) → AreSigns test (take size rest) →
@@ -161,15 +162,15 @@ pub number_begins : (line number rest : List ℕ) (m d e : ℕ) → BeginNoMoves
     ((k : ℕ) → k < d → is_digit (get_or number k 0) ≡ true) → rest ≡ drop d number → BeginNoMoves (take e rest) → BeginNoMoves (take (m + d + e) line)
 number_begins line number rest m d e mark first fits digits second end =
     let counted : BeginNoMoves (take (d + e) number) =
-    none_more begins_moves number d e (digits_begin number d fits digits) (subst (λ v. BeginNoMoves (take e v)) second end) in
+    none_more begins_moves number rest d e (digits_begin number d fits digits) second end in
     let there : m + (d + e) ≡ m + d + e = omega arith in
-    subst (λ n. BeginNoMoves (take n line)) there (none_more begins_moves line m (d + e) mark (subst (λ v. BeginNoMoves (take (d + e) v)) first counted))
+    subst (λ n. BeginNoMoves (take n line)) there (none_more begins_moves line number m (d + e) mark first counted)
 
 pub number_words : (line number rest : List ℕ) (m d e : ℕ) → HasOnlyWords words_of_head (take m line) → number ≡ drop m line → d ≤ length number →
     ((k : ℕ) → k < d → is_digit (get_or number k 0) ≡ true) → rest ≡ drop d number → BeginNoMoves (take e rest) → HasOnlyWords words_of_head (take (m + d + e) line)
 number_words line number rest m d e mark first fits digits second end =
     let counted : HasNoLetters (take (d + e) number) =
-    begin_letters (take (d + e) number) (none_more begins_moves number d e (digits_begin number d fits digits) (subst (λ v. BeginNoMoves (take e v)) second end)) in
+    begin_letters (take (d + e) number) (none_more begins_moves number rest d e (digits_begin number d fits digits) second end) in
     let there : m + (d + e) ≡ m + d + e = omega arith in
     subst (λ n. HasOnlyWords words_of_head (take n line)) there
     (only_more words_of_head line m (d + e) mark (subst (λ v. HasOnlyWords words_of_head (take (d + e) v)) first (only_none words_of_head (take (d + e) number) counted)))
@@ -292,11 +293,6 @@ whole_title line begin slashes words title b comment order within is fits none =
     (subst (λ v. IsTitleEnd v) (part_within line begin slashes words title order within) is)
     (subst (λ v. AreSigns is_spacing v) (part_front line (begin + title) comment b fits) none))
 
--- none of some bytes, and none in what is left
-pub none_then : (test : ℕ → Bool) (line rest : List ℕ) (n m : ℕ) → list_any test (take n line) ≡ false → rest ≡ drop n line → list_any test (take m rest) ≡ false →
-    list_any test (take (n + m) line) ≡ false
-none_then test line rest n m a is b = none_more test line n m a (subst (λ v. list_any test (take m v) ≡ false) is b)
-
 -- a text that begins with a byte has one
 pub some_byte : (text : List ℕ) (byte : ℕ) → get_or text 0 0 ≡ byte → 0 < byte → 1 ≤ length text
 some_byte [] byte is some = absurd (omega (arith, is, some))
@@ -304,18 +300,6 @@ some_byte (b ∷ bytes) byte is some = omega arith
 
 pub part_long : (text : List ℕ) (a b : ℕ) → length (slice_range text a b) ≤ b - a
 part_long text a b = omega (arith, length-take (b - a) (drop a text))
-
-follows_blank : (b : ℕ) → is_capital b ≡ true → follows 32 b ≡ true
-follows_blank b is = grind (arith, nat_tests)
-
--- each byte of plain moves follows the one before, the first one a blank
-pub plain_follows : (text : List ℕ) (at before : ℕ) → ArePlain text → at < length text → (at ≡ 0 → before ≡ 32) → ((k : ℕ) → k + 1 ≡ at → before ≡ get_or text k 0) →
-    follows before (get_or text at 0) ≡ true
-plain_follows text zero before plain lt first later = subst (λ a. follows a (get_or text 0 0) ≡ true) (sym (first refl)) (follows_blank (get_or text 0 0) plain.first)
-plain_follows text (suc k) before plain lt first later =
-    let one : k + 1 ≡ suc k = omega arith in
-    subst (λ a. follows a (get_or text (suc k) 0) ≡ true) (sym (later k one))
-    (subst (λ n. follows (get_or text k 0) (get_or text n 0) ≡ true) one (plain.each k (omega (arith, lt))))
 
 -- bytes in front of what is left of a text
 pub part_of_rest : (text rest : List ℕ) (a n : ℕ) → rest ≡ drop a text → take n rest ≡ slice_range text a (a + n)

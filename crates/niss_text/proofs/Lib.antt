@@ -24,3 +24,4 @@ pub mod GroupLemmas
 pub mod FrontLemmas
 pub mod ListedWords
 pub mod GroupedLines
+pub mod NotationLemmas

@@ -1,9 +1,9 @@
 -- What is seen of a line holds of it in its text.
 use Rattle.std.proofs.Common.{◌≡◌, ℕ, zero, suc, ◌+◌, ◌<◌, ◌≤◌, ◌⊎◌, inl, inr, nat_lt, ◌-◌, if◌then◌else◌, Bool, true, false, List, length, take, drop, get_or, slice_range, refl, sym, subst, ap, ◌∙◌, add-zero, arith}
 use Rattle.std.proofs.lemmas.Bool.{false≢true}
-use Rattle.niss_text.specs.Signs.{HasNoMoves}
-use Rattle.niss_text.specs.Doubts.{IsDoubted, is_capital}
-use Rattle.niss_text.specs.Kept.{BeginNoMoves, HasOnlyWords, IsTitleEnd, LosesNone, ArePlain, ArePlainBefore, begins_with_move, words_of_head}
+use Rattle.niss_text.specs.Signs.{HasNoMoves, is_of_moves}
+use Rattle.niss_text.specs.Doubts.{IsDoubted}
+use Rattle.niss_text.specs.Kept.{BeginNoMoves, HasOnlyWords, IsTitleEnd, LosesNone, AreInNotation, ArePlainBefore, begins_with_move, words_of_head}
 use Rattle.niss_text.specs.Said.{HasNoSlashes, HasWord, IsLabelled, IsSided, is_a_head, label_in, words_of_solution}
 use Rattle.niss_text.specs.Doubts.{is_letter as is_plain_letter}
 use Rattle.niss_text.specs.Lines.{IsTold}
@@ -12,6 +12,7 @@ use Rattle.niss_text.specs.declared.line.Line.{Line}
 use Rattle.niss_text.specs.declared.text_line.TextLine.{TextLine}
 use Rattle.niss_text.proofs.KeptLemmas.{part_of_line, part_of_rest, rest_of_line}
 use Rattle.niss_text.proofs.CommentLemmas.{first_capital, moves_some}
+use Rattle.niss_text.proofs.NotationLemmas.{capital_moves, line_begins}
 use Rattle.niss_text.proofs.SaidLemmas.{told_true}
 use Rattle.std.proofs.lemmas.Bool.Decides.{nat_tests}
 
@@ -35,7 +36,7 @@ pub record IsSeen (bytes : List ℕ) (seen : Line) : Type 0 where
   pub alone : seen.is_head_alone ≡ true → HasNoMoves (drop seen.head bytes)
   pub comment : begins_with_move (drop seen.comment bytes) ≡ false
   pub uncommented : HasNoSlashes (slice_range bytes seen.moves seen.comment)
-  pub plain : ArePlain bytes → (seen.is_moves ≡ true) × ((seen.moves ≡ 0) × (seen.comment ≡ seen.length))
+  pub plain : AreInNotation bytes → (seen.is_moves ≡ true) × ((seen.moves ≡ 0) × (seen.comment ≡ seen.length))
   pub commented : (count : ℕ) → ArePlainBefore bytes count → (seen.is_moves ≡ true) × ((seen.moves ≡ 0) × (seen.comment ≡ count))
 
 -- what is told of it by numbers
@@ -157,10 +158,10 @@ is_told text now seen line fits at is has says known doubted sided = record {
     same = part_of_rest text (drop now text) now seen.length refl ∙ ap (λ n. slice_range text now n) (sym at.end)
         ∙ ap (λ n. slice_range text n line.end) (sym at.begin)
 
-    whole : ArePlain (slice_range text line.begin line.end) → ArePlain bytes
-    whole plain = subst (λ v. ArePlain v) (sym same) plain
+    whole : AreInNotation (slice_range text line.begin line.end) → AreInNotation bytes
+    whole plain = subst (λ v. AreInNotation v) (sym same) plain
 
-    by_kind : (kind : ℕ) → line.kind ≡ kind → kind ≤ 4 → is_capital (get_or bytes 0 0) ≡ true → seen.is_moves ≡ true → seen.moves ≡ 0 →
+    by_kind : (kind : ℕ) → line.kind ≡ kind → kind ≤ 4 → is_of_moves (get_or bytes 0 0) ≡ true → seen.is_moves ≡ true → seen.moves ≡ 0 →
         (line.kind ≡ 2) ⊎ (line.kind ≡ 3)
     by_kind zero this low capital moves first =
         let none : seen.head ≡ 0 = omega (arith, seen.head_in, seen.label_in, seen.words_in, first) in
@@ -174,16 +175,16 @@ is_told text now seen line fits at is has says known doubted sided = record {
     begins : seen.moves ≡ 0 → line.moves ≡ line.begin
     begins first = at.moves ∙ ap (λ n. now + n) first ∙ add-zero now ∙ sym at.begin
 
-    by_plain : ArePlain bytes → ((line.kind ≡ 2) ⊎ (line.kind ≡ 3)) × ((line.moves ≡ line.begin) × (line.comment ≡ line.end))
+    by_plain : AreInNotation bytes → ((line.kind ≡ 2) ⊎ (line.kind ≡ 3)) × ((line.moves ≡ line.begin) × (line.comment ≡ line.end))
     by_plain plain =
         let so = is.plain plain in (
-          by_kind line.kind refl known plain.first so.0 so.1.0,
+          by_kind line.kind refl known (line_begins (get_or bytes 0 0) plain.first) so.0 so.1.0,
           (begins so.1.0, at.comment ∙ ap (λ n. now + n) so.1.1 ∙ sym at.end),
         )
 
     by_comment : (count : ℕ) → ArePlainBefore bytes count → ((line.kind ≡ 2) ⊎ (line.kind ≡ 3)) × ((line.moves ≡ line.begin) × (line.comment ≡ line.begin + count))
     by_comment count before =
         let so = is.commented count before in (
-          by_kind line.kind refl known (first_capital bytes count before.moves) so.0 so.1.0,
+          by_kind line.kind refl known (capital_moves (get_or bytes 0 0) (first_capital bytes count before.moves)) so.0 so.1.0,
           (begins so.1.0, at.comment ∙ ap (λ n. now + n) so.1.1 ∙ ap (λ n. n + count) (sym at.begin)),
         )

@@ -8,7 +8,7 @@ use Rattle.std.proofs.lemmas.List.Elements.{All-head, All-tail}
 use Rattle.niss_text.specs.declared.text_line.TextLine.{TextLine}
 use Rattle.niss_text.specs.Signs.{ends_line}
 use Rattle.niss_text.specs.Doubts.{is_capital}
-use Rattle.niss_text.specs.Kept.{HasNoLetters, ArePlain, ArePlainBefore, small, words_of_head}
+use Rattle.niss_text.specs.Kept.{HasNoLetters, AreInNotation, ArePlain, ArePlainBefore, small, words_of_head}
 use Rattle.niss_text.specs.Lines.{IsLine, IsTold, IsUnbroken, IsEnd, IsPlainLine, MayBeHead, TellsPlain, end_of, end_size, has_moves}
 use Rattle.niss_text.proofs.CommentLemmas.{first_capital}
 use Rattle.niss_text.proofs.PassedLemmas.{passes_order, same_line}
@@ -161,7 +161,7 @@ told_moves text begin end line is told same ends none = by_plain is.plain
     never kind (inr three) none = false≢true (sym none ∙ ap (λ k. (k == 2) || (k == 3)) three)
 
     by_plain : ArePlain (slice_range text begin end) ⊎ ((count : ℕ) × ArePlainBefore (slice_range text begin end) count) → ⊥
-    by_plain (inl plain) = never line.kind (told.plain (subst (λ v. ArePlain v) bytes plain)).0 none
+    by_plain (inl plain) = never line.kind (told.plain (subst (λ v. AreInNotation v) bytes plain.moves)).0 none
     by_plain (inr before) = never line.kind (told.commented before.0 (subst (λ v. ArePlainBefore v before.0) bytes before.1)).0 none
 
 -- a line's first byte is none of what ends one

@@ -1,5 +1,5 @@
 -- What stands in a line before its moves, in its head and between its parts: none of its moves.
-use Rattle.std.specs.Prelude.{◌≡◌, ℕ, ◌+◌, ◌<◌, ◌⊎◌, ◌==◌, Bool, true, false, ◌||◌, ◌&&◌, not, List, [], ◌∷◌, ◌++◌, length, take, drop, map, slice_index, slice_range, if◌then◌else◌, codes}
+use Rattle.std.specs.Prelude.{◌≡◌, ℕ, ◌+◌, ◌-◌, ◌<◌, ◌⊎◌, ◌==◌, Bool, true, false, ◌||◌, ◌&&◌, List, [], ◌∷◌, ◌++◌, length, take, drop, map, slice_index, slice_range, if◌then◌else◌, codes}
 use Rattle.std.specs.List.{All, Contains, concat, list_any}
 use Rattle.niss_text.specs.Signs.{HasNoMoves, AreSigns, ends_title, is_within, begins_count}
 use Rattle.niss_text.specs.Doubts.{is_capital}
@@ -57,15 +57,44 @@ pub record LosesNone (text : List ℕ) (begin head_end label_begin label_end mov
   pub margin : BeginNoMoves (slice_range text head_end label_begin)
   pub title : IsTitleEnd (slice_range text label_end moves)
 
--- a byte of moves by capitals may follow another
-abbrev pub follows : ℕ → ℕ → Bool
-follows a b = (b == 32) || (((a == 32) && is_capital b) || ((not (a == 32)) && ((b == 50) || (b == 39))))
+-- the letter of a turn of a face or of a slice: that of an outer one, M, E or S
+abbrev pub is_of_move : ℕ → Bool
+is_of_move b = is_capital b || ((b == 77) || ((b == 69) || (b == 83)))
 
--- Bytes are moves by capitals, with blanks between: each byte is a blank, the letter of an outer turn after one or at
--- the beginning, or a 2 or an apostrophe after one of these.
+-- what may stand after any byte of a move but those in front: a blank, a 2, an apostrophe, or a closed bracket
+abbrev pub goes_on : ℕ → Bool
+goes_on b = (b == 32) || ((b == 50) || ((b == 39) || ((b == 41) || (b == 226))))
+
+-- A byte of moves in the WCA's notation, each a word of its own, may follow another: after a blank a move or an opened
+-- bracket, after that a move, after a closed one a blank, after the letter of an outer turn a w too. U+2019 is whole.
+unfoldable pub follows_move : ℕ → ℕ → Bool
+follows_move a b =
+    if a == 226 then b == 128
+    else if a == 128 then b == 153
+    else if a == 32 then (b == 32) || ((b == 40) || is_of_move b)
+    else if a == 40 then is_of_move b
+    else if a == 41 then b == 32
+    else goes_on b || ((b == 119) && is_capital a)
+
+-- a byte of U+2019 but the last, or an opened bracket
+unfoldable pub needs_more : ℕ → Bool
+needs_more b = (b == 226) || ((b == 128) || (b == 40))
+
+-- what a line of moves begins with: a bracket or a move, but an E, which may be of an extra
+abbrev pub begins_line : ℕ → Bool
+begins_line b = (b == 40) || (is_capital b || ((b == 77) || (b == 83)))
+
+-- Bytes are moves in the WCA's notation: turns of faces, of two layers and of slices, some in brackets, each a word of
+-- its own.
+pub record AreInNotation (bytes : List ℕ) : Type 0 where
+  pub first : begins_line (slice_index bytes 0) ≡ true
+  pub each : (k : ℕ) → k + 1 < length bytes → follows_move (slice_index bytes k) (slice_index bytes (k + 1)) ≡ true
+  pub last : needs_more (slice_index bytes (length bytes - 1)) ≡ false
+
+-- Such moves begin with the turn of a face: no head does.
 pub record ArePlain (bytes : List ℕ) : Type 0 where
   pub first : is_capital (slice_index bytes 0) ≡ true
-  pub each : (k : ℕ) → k + 1 < length bytes → follows (slice_index bytes k) (slice_index bytes (k + 1)) ≡ true
+  pub moves : AreInNotation bytes
 
 -- a letter of an outer turn, or the 2 of a half one
 abbrev pub is_turn : ℕ → Bool
@@ -88,7 +117,7 @@ HasTurns bytes = (k : ℕ) → k < length bytes → (slice_index bytes k ≡ 32)
 abbrev pub IsTurnUpTo : List ℕ → ℕ → Type 0
 IsTurnUpTo bytes count = ((k : ℕ) → k < count → is_turn (slice_index bytes k) ≡ true) × (count < length bytes → slice_index bytes count ≡ 32)
 
--- The first bytes of a line, that many, are moves by capitals, and the slashes of a comment follow them.
+-- The first bytes of a line, that many, are such moves, and the slashes of a comment follow them.
 pub record ArePlainBefore (bytes : List ℕ) (count : ℕ) : Type 0 where
   pub moves : ArePlain (take count bytes)
   pub slashes : (slice_index bytes count ≡ 47) × (slice_index bytes (count + 1) ≡ 47)

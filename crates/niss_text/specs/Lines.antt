@@ -2,7 +2,7 @@
 use Rattle.std.specs.Prelude.{◌≡◌, ℕ, zero, suc, ◌==◌, ◌+◌, ◌-◌, ◌<◌, ◌≤◌, ◌⊎◌, ◌||◌, ◌&&◌, Bool, true, false, if◌then◌else◌, List, [], ◌∷◌, length, get_or, slice_index, slice_range, nat_lt}
 use Rattle.niss_text.specs.Signs.{ends_line, HasNoMoves}
 use Rattle.niss_text.specs.Doubts.{IsDoubted}
-use Rattle.niss_text.specs.Kept.{HasOnlyWords, LosesNone, ArePlain, ArePlainBefore, begins_with_move, words_of_head}
+use Rattle.niss_text.specs.Kept.{HasOnlyWords, LosesNone, AreInNotation, ArePlain, ArePlainBefore, begins_with_move, words_of_head}
 use Rattle.niss_text.specs.Said.{HasNoSlashes, HasWord, IsLabelled, IsSided, label_in, words_of_solution}
 use Rattle.niss_text.specs.Doubts.{is_letter as is_plain_letter}
 use Rattle.niss_text.specs.declared.text_line.TextLine.{TextLine}
@@ -34,8 +34,9 @@ pub record IsPlacedAs (line other : TextLine) : Type 0 where
 -- What is told of a line of a text: what makes one doubt it, whether it is on the inverse, and whether it has a head.
 -- Its label has a word for a solution if it is told to say that one follows. It loses no move before its moves, which
 -- are no label where they begin it; nothing that moves are made of stands in a blank one after its head; no comment
--- begins among the moves; what is said after them doesn't begin with a move by itself; and a line that is plain moves
--- is of a scramble or a step, all of it, or all up to the slashes if a comment follows the moves.
+-- begins among the moves; what is said after them doesn't begin with a move by itself; and a line that is moves in the
+-- WCA's notation is of a scramble or a step, all of it, or all up to the slashes if a comment follows moves that begin
+-- with the turn of a face.
 pub record IsTold (text : List ℕ) (line : TextLine) : Type 0 where
   pub doubted : IsDoubted text line
   pub sided : IsSided text line
@@ -46,7 +47,7 @@ pub record IsTold (text : List ℕ) (line : TextLine) : Type 0 where
   pub blank : line.kind ≡ 0 → HasNoMoves (slice_range text line.head_end line.end)
   pub comment : begins_with_move (slice_range text line.comment line.end) ≡ false
   pub uncommented : HasNoSlashes (slice_range text line.moves line.comment)
-  pub plain : ArePlain (slice_range text line.begin line.end) →
+  pub plain : AreInNotation (slice_range text line.begin line.end) →
       ((line.kind ≡ 2) ⊎ (line.kind ≡ 3)) × ((line.moves ≡ line.begin) × (line.comment ≡ line.end))
   pub commented : (count : ℕ) → ArePlainBefore (slice_range text line.begin line.end) count →
       ((line.kind ≡ 2) ⊎ (line.kind ≡ 3)) × ((line.moves ≡ line.begin) × (line.comment ≡ line.begin + count))

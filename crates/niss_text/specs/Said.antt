@@ -9,7 +9,7 @@ use Rattle.niss_text.specs.declared.line.Head.{Head}
 use Rattle.niss_text.specs.declared.line.Head.TheVariants.{None, Number, Word}
 use Rattle.niss_text.specs.declared.text_line.TextLine.{TextLine}
 use Rattle.niss_text.specs.declared.words.Wanted.{Wanted}
-use Rattle.niss_text.specs.declared.words.Wanted.TheVariants.{Step, Orientation, Reduction, HalfTurns, Finish, Solution, Solutions, Final, Scramble, Inverse, Switch}
+use Rattle.niss_text.specs.declared.words.Wanted.TheVariants.{Step, Solution, Solutions, Final, Scramble, Inverse, Switch}
 
 -- a byte in front of words
 unfoldable pub before_words : ℕ → List (List ℕ) → List (List ℕ)
@@ -33,10 +33,19 @@ words_of_inverse = codes "inverse" ∷ codes "inv" ∷ []
 abbrev pub words_of_switch : List (List ℕ)
 words_of_switch = codes "normal" ∷ codes "niss" ∷ codes "switch" ∷ codes "premove" ∷ codes "premoves" ∷ []
 
+-- the words by which solvers say that there is nothing of what follows, and those that may stand between
+abbrev pub words_of_none : List (List ℕ)
+words_of_none = codes "no" ∷ codes "not" ∷ codes "nothing" ∷ codes "none" ∷ codes "never" ∷ codes "without" ∷ []
+
+abbrev pub words_of_links : List (List ℕ)
+words_of_links =
+    codes "on" ∷ codes "in" ∷ codes "from" ∷ codes "with" ∷ codes "the" ∷ codes "a" ∷ codes "an" ∷ codes "any" ∷
+    codes "good" ∷ codes "find" ∷ codes "found" ∷ codes "using" ∷ codes "t" ∷ []
+
 -- the words for a solution in some languages, in UTF-8
 abbrev pub words_of_solution : List (List ℕ)
 words_of_solution =
-    codes "solution" ∷ codes "submitted" ∷ (codes "l" ++ (195 ∷ 182 ∷ []) ++ codes "sung") ∷
+    codes "solution" ∷ codes "sol" ∷ codes "submitted" ∷ (codes "l" ++ (195 ∷ 182 ∷ []) ++ codes "sung") ∷
     (codes "l" ++ (195 ∷ 182 ∷ []) ++ codes "sning") ∷ (codes "soluci" ++ (195 ∷ 179 ∷ []) ++ codes "n") ∷
     codes "solucion" ∷ codes "soluzione" ∷ (codes "solu" ++ (195 ∷ 167 ∷ 195 ∷ 163 ∷ []) ++ codes "o") ∷
     (codes "rozwi" ++ (196 ∷ 133 ∷ []) ++ codes "zanie") ∷ codes "oplossing" ∷
@@ -61,10 +70,6 @@ words_of_scramble =
 
 abbrev pub words_of : Wanted → List (List ℕ)
 words_of Step = words_of_step
-words_of Orientation = codes "eo" ∷ []
-words_of Reduction = codes "dr" ∷ []
-words_of HalfTurns = codes "htr" ∷ []
-words_of Finish = codes "finish" ∷ []
 words_of Solution = words_of_solution
 words_of Solutions = codes "solutions" ∷ []
 words_of Final = codes "final" ∷ []

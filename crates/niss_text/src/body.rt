@@ -157,36 +157,29 @@ fn has_two_frames(text: &[u8]) -> bool {
     false
 }
 
-/// The letters of the first three turns of a text.
-fn first_letters(text: &[u8]) -> [u8; 3] {
-    let mut letters = [0; 3];
-    let mut count = 0u8;
-    for byte in text {
-        if is_capital(*byte) && count < 3 {
-            letters = [letters[1], letters[2], *byte];
-            count += 1;
-        }
-    }
-    letters
-}
-
-/// The letters of the last three.
-fn last_letters(text: &[u8]) -> [u8; 3] {
-    let mut letters = [0; 3];
+/// The letters of the first three turns of a text, and of the last three.
+fn letters_at_ends(text: &[u8]) -> ([u8; 3], [u8; 3]) {
+    let mut first = [0; 3];
+    let mut last = [0; 3];
     for byte in text {
         if is_capital(*byte) {
-            letters = [letters[1], letters[2], *byte];
+            last = [last[1], last[2], *byte];
+            // three turns fill it
+            if first[0] == 0 {
+                first = last;
+            }
         }
     }
-    letters
+    (first, last)
 }
 
 /// Whether moves begin or end with R' U' F, and have the same letters at the other end, where a sign may have been lost.
 pub fn is_half_framed(moves: &[u8]) -> bool {
+    let (first, last) = letters_at_ends(moves);
     if begins_scramble(moves) {
-        last_letters(moves) == *b"RUF" && !ends_with_frame(moves)
+        last == *b"RUF" && !ends_with_frame(moves)
     } else {
-        first_letters(moves) == *b"RUF" && ends_with_frame(moves)
+        first == *b"RUF" && ends_with_frame(moves)
     }
 }
 

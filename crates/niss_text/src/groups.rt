@@ -3,7 +3,7 @@ ghost use Rattle.std.specs.Prelude.{◌≡◌, ◌≤◌, ◌<◌, true, false};
 ghost use Rattle.niss_text.specs.Groups.{IsFresh, IsEndedBy, Goes};
 
 use crate::body::{are_long, is_whole_move_before};
-use crate::line::{Line, Numbers, first_line, whole_length};
+use crate::line::{Line, Numbers, next_line};
 use crate::sign::trimmed;
 use crate::step_order::{Order, is_next};
 use crate::words::{Wanted, says};
@@ -88,11 +88,11 @@ fn begin_with(moves: &[u8], others: &[u8]) -> bool {
 fn first_moves(text: &[u8], numbers: Numbers) -> &[u8] {
     let mut rest = text;
     while !rest.is_empty() {
-        let line = first_line(rest, numbers);
+        let (line, length) = next_line(rest, numbers);
         if line.is_moves {
             return &rest[line.moves..line.comment];
         }
-        rest = &rest[whole_length(rest)..];
+        rest = &rest[length..];
     }
     &[]
 }
@@ -102,21 +102,25 @@ pub fn is_same(moves: &[u8], text: &[u8], numbers: Numbers) -> bool {
     are_long(0, moves.len()) && begin_with(first_moves(text, numbers), moves)
 }
 
-/// Whether the last moves of some lines after a scramble are the whole solution: they begin with those of the first line,
-/// and are long.
-fn ends_written_out(text: &[u8], numbers: Numbers) -> bool {
-    let mut first: &[u8] = &[];
+/// The moves of the last line of a text that has any.
+fn last_moves(text: &[u8], numbers: Numbers) -> &[u8] {
     let mut last: &[u8] = &[];
     let mut rest = text;
     while !rest.is_empty() {
-        let line = first_line(rest, numbers);
+        let (line, length) = next_line(rest, numbers);
         if line.is_moves {
             last = &rest[line.moves..line.comment];
-            first = if first.is_empty() { last } else { first };
         }
-        rest = &rest[whole_length(rest)..];
+        rest = &rest[length..];
     }
-    last.len() >= FEWEST_BYTES && begin_with(last, first)
+    last
+}
+
+/// Whether the last moves of some lines after a scramble are the whole solution: they begin with those of the first line,
+/// and are long.
+fn ends_written_out(text: &[u8], numbers: Numbers) -> bool {
+    let last = last_moves(text, numbers);
+    last.len() >= FEWEST_BYTES && begin_with(last, first_moves(text, numbers))
 }
 
 /// What tells which group is the solution.
@@ -192,8 +196,7 @@ impl Solutions {
         let mut rest = text;
         let mut seen = Solutions::none();
         while !rest.is_empty() {
-            let line = first_line(rest, numbers);
-            let length = whole_length(rest);
+            let (line, length) = next_line(rest, numbers);
             let at = text.len() - rest.len();
             seen = seen.after(&line, at);
             if line.is_moves {

@@ -21,6 +21,7 @@ mod pen;
 mod piece;
 mod plain;
 mod said;
+mod short_word;
 mod sights;
 mod sign;
 mod span;
@@ -29,6 +30,7 @@ mod status;
 mod step_order;
 mod stretches;
 mod text_line;
+mod topics;
 mod word;
 mod words;
 

@@ -1,7 +1,7 @@
 //! A line of a text: where its parts are, and what is seen of it.
 ghost use Rattle.std.specs.Prelude.{◌≡◌, ◌≤◌, ◌<◌, ◌+◌, ◌⊎◌, nat_lt, ℕ, true, false, length, take, drop, slice_index, slice_range};
 ghost use Rattle.niss_text.specs.Signs.{ends_line, HasNoMoves};
-ghost use Rattle.niss_text.specs.Kept.{BeginNoMoves, IsTitleEnd, LosesNone, ArePlain, ArePlainBefore, begins_with_move};
+ghost use Rattle.niss_text.specs.Kept.{BeginNoMoves, IsTitleEnd, LosesNone, AreInNotation, ArePlainBefore, begins_with_move};
 ghost use Rattle.niss_text.specs.Doubts.{is_letter as is_plain_letter};
 ghost use Rattle.niss_text.specs.Said.{HasNoSlashes, HasWord, IsLabelled, is_a_head, words_of_solution};
 ghost use Rattle.niss_text.specs.Lines.{IsUnbroken, IsEnd, end_of, end_size};
@@ -242,7 +242,7 @@ fn headed_line(line: &[u8], kind: Head, head: usize) -> Line
 /// Whether a line is plain moves, but of an E at its beginning: E2 may be an extra.
 fn is_bare(line: &[u8]) -> bool
     ensures some { result ≡ true → 0 < length line.now }
-    ensures plain { ArePlain line.now → result ≡ true }
+    ensures plain { AreInNotation line.now → result ≡ true }
     ensures slash { result ≡ true → (k : ℕ) → slice_index line.now k ≡ 47 → ⊥ }
 {
     are_plain_moves(line) && line[0] != b'E'
@@ -261,7 +261,7 @@ pub fn line_of(line: &[u8], numbers: Numbers) -> Line
     ensures labelled { IsLabelled line.now (drop result.label_begin line.now) result.label_begin result.moves }
     ensures said { result.is_solution ≡ true →
         HasWord is_plain_letter words_of_solution (slice_range line.now result.label_begin result.label_end) }
-    ensures plain { ArePlain line.now → (result.is_moves ≡ true) × ((result.moves ≡ 0) × (result.comment ≡ result.length)) }
+    ensures plain { AreInNotation line.now → (result.is_moves ≡ true) × ((result.moves ≡ 0) × (result.comment ≡ result.length)) }
     ensures commented { (count : ℕ) → ArePlainBefore line.now count →
         (result.is_moves ≡ true) × ((result.moves ≡ 0) × (result.comment ≡ count)) }
 {
@@ -315,7 +315,7 @@ pub fn cut_line(text: &[u8], numbers: Numbers) -> (Line, usize)
         result.0.label_begin result.0.moves }
     ensures said { result.0.is_solution ≡ true →
         HasWord is_plain_letter words_of_solution (slice_range (take result.0.length text.now) result.0.label_begin result.0.label_end) }
-    ensures plain { ArePlain (take result.0.length text.now) →
+    ensures plain { AreInNotation (take result.0.length text.now) →
         (result.0.is_moves ≡ true) × ((result.0.moves ≡ 0) × (result.0.comment ≡ result.0.length)) }
     ensures commented { (count : ℕ) → ArePlainBefore (take result.0.length text.now) count →
         (result.0.is_moves ≡ true) × ((result.0.moves ≡ 0) × (result.0.comment ≡ count)) }
@@ -328,28 +328,45 @@ pub fn cut_line(text: &[u8], numbers: Numbers) -> (Line, usize)
     (line, length + line_end_length(&text[length..]))
 }
 
-/// How many bytes the first line of a text has with what ends it.
+/// The same, where no more of it is asked for.
+pub fn next_line(text: &[u8], numbers: Numbers) -> (Line, usize)
+    requires { 0 < length text.now }
+    ensures line { result.0.length ≤ length text.now }
+    ensures whole { (0 < result.1) × (result.1 ≤ length text.now) }
+{
+    cut_line(text, numbers)
+}
+
+/// The bytes of the first line of a text, and how many these are with what ends it.
 #[inline(never)]
+pub fn cut_text(text: &[u8]) -> (&[u8], usize)
+    requires { 0 < length text.now }
+    ensures line { length result.0.now ≤ length text.now }
+    ensures whole { (0 < result.1) × (result.1 ≤ length text.now) }
+{
+    let length = line_length(text);
+    if length == text.len() {
+        return (text, length);
+    }
+    (&text[..length], length + line_end_length(&text[length..]))
+}
+
+/// How many bytes the first line of a text has with what ends it.
 pub fn whole_length(text: &[u8]) -> usize
     requires { 0 < length text.now }
     ensures { (0 < result) × (result ≤ length text.now) }
 {
-    let line = line_length(text);
-    if line == text.len() {
-        return line;
-    }
-    line + line_end_length(&text[line..])
+    cut_text(text).1
 }
 
-/// What tells the first line of a text from other scrambles.
-pub fn first_head(text: &[u8], numbers: Numbers) -> Head {
-    let line = &text[..line_length(text)];
+/// What tells a line from other scrambles.
+pub fn head_in_front(line: &[u8], numbers: Numbers) -> Head {
     head_of(&line[margin(line)..], numbers).0
 }
 
-/// Whether the first line of a text may begin an attempt: by a head, or as a whole scramble.
-pub fn may_begin(text: &[u8], numbers: Numbers) -> bool {
-    first_head(text, numbers) != Head::None || has_frame(&text[..line_length(text)])
+/// Whether a line may begin an attempt: by a head, or as a whole scramble.
+pub fn may_begin(line: &[u8], numbers: Numbers) -> bool {
+    head_in_front(line, numbers) != Head::None || has_frame(line)
 }
 
 /// The first line of a text.

@@ -5,7 +5,7 @@ ghost use Rattle.niss_text.specs.Said.{is_a_head};
 use crate::body::{are_long, begins_frame, begins_scramble, is_framed, is_half_framed};
 use crate::forms::line_length;
 use crate::line::{
-    Beside, Head, Line, Numbers, cut_line, first_line, is_blank, may_begin, whole_length,
+    Beside, Head, Line, Numbers, cut_text, first_line, is_blank, may_begin, next_line, whole_length,
 };
 use crate::parts::number_in;
 use crate::stretches::is_open;
@@ -42,7 +42,7 @@ fn whole_scramble_length(text: &[u8], line: &Line, numbers: Numbers) -> usize
             return 0;
         }
         let rest = &text[end..];
-        let (next, length) = cut_line(rest, numbers);
+        let (next, length) = next_line(rest, numbers);
         let is_other = is_head(&next) || begins_scramble(&rest[next.moves..next.comment]);
         if !next.is_moves || next.is_step || is_other {
             return 0;
@@ -67,11 +67,11 @@ enum Next {
     Nothing,
 }
 
-/// What the first line of a text says of the next attempt. A whole scramble begins one, whatever stands before it. A
+/// What the first line of a text, which has these bytes, says of the next attempt. A whole scramble begins one, whatever stands before it. A
 /// number alone does only if moves without one follow: it may be a result. Without such a number before it, a line counts
 /// only if it may begin one.
-fn next_at(text: &[u8], numbers: Numbers, is_numbered: bool) -> Next {
-    if !is_numbered && !may_begin(text, numbers) {
+fn next_at(text: &[u8], begin: &[u8], numbers: Numbers, is_numbered: bool) -> Next {
+    if !is_numbered && !may_begin(begin, numbers) {
         return Next::Nothing;
     }
     let line = first_line(text, numbers);
@@ -89,8 +89,12 @@ fn next_at(text: &[u8], numbers: Numbers, is_numbered: bool) -> Next {
 /// What a text has from its first line on that isn't blank.
 fn from_filled_line(text: &[u8]) -> &[u8] {
     let mut rest = text;
-    while !rest.is_empty() && is_blank(&rest[..line_length(rest)]) {
-        rest = &rest[whole_length(rest)..];
+    while !rest.is_empty() {
+        let (line, length) = cut_text(rest);
+        if !is_blank(line) {
+            break;
+        }
+        rest = &rest[length..];
     }
     rest
 }
@@ -273,8 +277,9 @@ pub fn outline_of(text: &[u8], numbers: Numbers) -> Outline
     let mut number = 0;
     while !rest.is_empty() {
         let at = text.len() - rest.len();
+        let (begin, length) = cut_text(rest);
         if has_moves {
-            match next_at(rest, seen.numbers, number > 0) {
+            match next_at(rest, begin, seen.numbers, number > 0) {
                 Next::Begins => return seen.ended(at),
                 Next::HasMoves if number > 0 => return seen.ended(number),
                 Next::MayBegin if number == 0 => number = at,
@@ -284,11 +289,11 @@ pub fn outline_of(text: &[u8], numbers: Numbers) -> Outline
             let line = first_line(rest, numbers);
             has_moves = is_open(&line);
             seen = seen.after(rest, &line, at);
-            if has_moves && lists_solutions(&rest[whole_length(rest)..], numbers) {
+            if has_moves && lists_solutions(&rest[length..], numbers) {
                 seen = seen.before_list(number_of(rest, &line));
             }
         }
-        rest = &rest[whole_length(rest)..];
+        rest = &rest[length..];
     }
     seen.ended(text.len())
 }
@@ -304,14 +309,14 @@ fn scramble_length(text: &[u8], numbers: Numbers, has_sign: bool) -> usize
     let first = whole_length(text);
     let mut rest = &text[first..];
     while !rest.is_empty() {
-        let line = first_line(rest, numbers);
+        let (line, length) = next_line(rest, numbers);
         if line.is_blank || line.is_solution {
             return text.len() - rest.len();
         }
         if line.is_told() || (line.beside == Beside::Signs && !has_sign) {
             return first;
         }
-        rest = &rest[whole_length(rest)..];
+        rest = &rest[length..];
     }
     text.len()
 }
@@ -323,10 +328,11 @@ pub fn length_behind_scramble(text: &[u8]) -> usize
 {
     let mut rest = text;
     while !rest.is_empty() {
-        if next_at(rest, Numbers::OfLines, false) == Next::Begins {
+        let (line, length) = cut_text(rest);
+        if next_at(rest, line, Numbers::OfLines, false) == Next::Begins {
             break;
         }
-        rest = &rest[whole_length(rest)..];
+        rest = &rest[length..];
     }
     text.len() - rest.len()
 }

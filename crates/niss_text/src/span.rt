@@ -1,6 +1,6 @@
 //! Where the moves of a line begin and end: after words in front of them that are none, and before those after them.
 ghost use Rattle.std.specs.Prelude.{◌≡◌, ◌≤◌, ◌<◌, ℕ, List, length, drop, true, false};
-ghost use Rattle.niss_text.specs.Kept.{ArePlain, begins_with_move, IsNoMove};
+ghost use Rattle.niss_text.specs.Kept.{AreInNotation, begins_with_move, IsNoMove};
 ghost use Rattle.niss_text.specs.declared.word.Word.TheVariants.{Move};
 
 use crate::sign::from_place;
@@ -261,7 +261,7 @@ pub fn span_of(line: &[u8]) -> Span
     ensures fits { result.end ≤ length line.now }
     ensures name { result.name ≤ length line.now }
     ensures tail { result.end < length line.now → begins_with_move (drop result.end line.now) ≡ false }
-    ensures plain { ArePlain line.now → (result.is_moves ≡ true) × ((result.begin ≡ 0) × (result.end ≡ length line.now)) }
+    ensures plain { AreInNotation line.now → (result.is_moves ≡ true) × ((result.begin ≡ 0) × (result.end ≡ length line.now)) }
     ensures front { begins_with_move line.now ≡ true → result.begin ≡ 0 }
 {
     if are_plain_moves(line) {

@@ -1,6 +1,7 @@
 //! How far letters and signs spell moves.
 ghost use Rattle.std.specs.Prelude.{◌≡◌, true};
 ghost use Rattle.niss_text.specs.Doubts.{is_capital, is_letter};
+ghost use Rattle.niss_text.specs.Kept.{is_of_move};
 
 use crate::sign::Kind;
 
@@ -50,6 +51,7 @@ impl Spelling {
 
 /// Whether a byte is the capital of a move.
 pub fn is_capital_move(byte: u8) -> bool
+    ensures is { result ≡ is_of_move byte }
     ensures outer { is_capital byte ≡ true → result ≡ true }
     ensures letter { result ≡ true → is_letter byte ≡ true }
 {

@@ -5,7 +5,7 @@ use crate::line::Line;
 use crate::parts::number_in;
 use crate::sights::is_letter;
 use crate::sign::is_digit_byte;
-use crate::words::{Wanted, says};
+use crate::words::{behind_letters, is_word, letters_in_front};
 
 /// A step by its name.
 #[derive(Clone, Copy, PartialEq, Eq)]
@@ -16,68 +16,75 @@ enum StepName {
     Finish,
 }
 
-/// Which step a text names, if it is one of them.
-fn step_named(text: &[u8]) -> Option<StepName> {
-    let names = (
-        says(text, Wanted::Orientation),
-        says(text, Wanted::Reduction),
-        says(text, Wanted::HalfTurns),
-        says(text, Wanted::Finish),
-    );
-    match names {
-        (true, false, false, false) => Some(StepName::Orientation),
-        (false, true, false, false) => Some(StepName::Reduction),
-        (false, false, true, false) => Some(StepName::HalfTurns),
-        (false, false, false, true) => Some(StepName::Finish),
-        _ => None,
+impl StepName {
+    /// The step that a word names, if it names one of them.
+    fn of(word: &[u8]) -> Option<StepName> {
+        if is_word(word, b"eo") {
+            Some(StepName::Orientation)
+        } else if is_word(word, b"dr") {
+            Some(StepName::Reduction)
+        } else if is_word(word, b"htr") {
+            Some(StepName::HalfTurns)
+        } else if is_word(word, b"finish") {
+            Some(StepName::Finish)
+        } else {
+            None
+        }
     }
+}
+
+/// Which step a text names, if it names one alone of them.
+fn step_named(text: &[u8]) -> Option<StepName> {
+    let mut named = None;
+    let mut rest = text;
+    while !rest.is_empty() {
+        let letters = letters_in_front(rest);
+        let name = StepName::of(&rest[..letters]);
+        if named.is_some() && name.is_some() && name != named {
+            return None;
+        }
+        named = name.or(named);
+        rest = behind_letters(rest, letters);
+    }
+    named
 }
 
 /// What the steps of a group are called.
 #[derive(Clone, Copy)]
 struct Called {
-    orientation: bool,
-    reduction: bool,
-    half_turns: bool,
-    finish: bool,
+    /// By which names, in the order of `StepName`.
+    named: [bool; 4],
     /// One has the number 1 before it, and one a higher number.
-    first: bool,
-    later: bool,
+    is_first: bool,
+    is_later: bool,
 }
 
 impl Called {
     fn nothing() -> Called {
         Called {
-            orientation: false,
-            reduction: false,
-            half_turns: false,
-            finish: false,
-            first: false,
-            later: false,
+            named: [false; 4],
+            is_first: false,
+            is_later: false,
         }
     }
 
     /// With a step of that name, and whether it comes too late: below the last one, and not as if all began again.
     fn with_name(self, name: StepName) -> (Called, bool) {
         let mut called = self;
-        let is_again = match name {
-            StepName::Orientation => std::mem::replace(&mut called.orientation, true),
-            StepName::Reduction => std::mem::replace(&mut called.reduction, true),
-            StepName::HalfTurns => std::mem::replace(&mut called.half_turns, true),
-            StepName::Finish => std::mem::replace(&mut called.finish, true),
-        };
-        (called, self.finish && !is_again)
+        called.named[name as usize] = true;
+        let is_again = self.named[name as usize];
+        (called, self.named[StepName::Finish as usize] && !is_again)
     }
 
     /// With a step of that number, and whether it is the first one, and comes below a later one. Others may count moves.
     fn with_number(self, number: usize) -> (Called, bool) {
         let mut called = self;
         if number == 1 {
-            called.first = true;
+            called.is_first = true;
         } else {
-            called.later = true;
+            called.is_later = true;
         }
-        (called, number == 1 && self.later && !self.first)
+        (called, number == 1 && self.is_later && !self.is_first)
     }
 
     /// With the step in the first line of a text, and whether it comes too late.

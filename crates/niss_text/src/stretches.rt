@@ -2,11 +2,12 @@
 //! scrambles of one apart.
 ghost use Rattle.std.specs.Prelude.{◌≤◌, ◌<◌, length};
 
-use crate::forms::{is_parted, line_length};
-use crate::line::{Head, Line, Numbers, first_head, first_line, whole_length};
+use crate::forms::is_parted;
+use crate::line::{
+    Head, Line, Numbers, cut_text, first_line, head_in_front, next_line, whole_length,
+};
 use crate::parts::number_in;
 use crate::sign::trimmed;
-use crate::words::{Wanted, says};
 
 /// Whether a text has a line that begins the extras of a sheet: E2 is a move too, but not beside E1, which is none.
 pub fn has_extras(text: &[u8]) -> bool {
@@ -35,15 +36,16 @@ pub fn stretch_length(text: &[u8]) -> usize
     let mut seen = 0;
     while !rest.is_empty() {
         let at = text.len() - rest.len();
+        let (line, length) = cut_text(rest);
         // lines are read only if a head follows them
-        if at > 0 && first_head(rest, Numbers::OfLines) == Head::Word {
+        if at > 0 && head_in_front(line, Numbers::OfLines) == Head::Word {
             has_moves = has_moves || has_open(&text[seen..at]);
             seen = at;
             if has_moves && first_line(rest, Numbers::OfLines).head_kind == Head::Word {
                 return at;
             }
         }
-        rest = &rest[whole_length(rest)..];
+        rest = &rest[length..];
     }
     text.len()
 }
@@ -52,10 +54,11 @@ pub fn stretch_length(text: &[u8]) -> usize
 fn has_open(text: &[u8]) -> bool {
     let mut rest = text;
     while !rest.is_empty() {
-        if is_open(&first_line(rest, Numbers::OfLines)) {
+        let (line, length) = next_line(rest, Numbers::OfLines);
+        if is_open(&line) {
             return true;
         }
-        rest = &rest[whole_length(rest)..];
+        rest = &rest[length..];
     }
     false
 }
@@ -75,14 +78,15 @@ fn is_marked(head: &[u8]) -> bool {
 fn has_numbered_step(text: &[u8], numbers: Numbers) -> bool {
     let mut rest = text;
     while !rest.is_empty() {
-        // few lines name a step: the others aren't read
-        if says(&rest[..line_length(rest)], Wanted::Step) {
-            let line = first_line(rest, numbers);
-            if line.head_kind == Head::Number && line.is_step {
+        // few lines have a number: the others aren't read
+        let (line, length) = cut_text(rest);
+        if head_in_front(line, numbers) == Head::Number {
+            let seen = first_line(line, numbers);
+            if seen.head_kind == Head::Number && seen.is_step {
                 return true;
             }
         }
-        rest = &rest[whole_length(rest)..];
+        rest = &rest[length..];
     }
     false
 }
@@ -91,11 +95,11 @@ fn has_numbered_step(text: &[u8], numbers: Numbers) -> bool {
 fn goes_on(text: &[u8], numbers: Numbers, number: usize) -> bool {
     let mut rest = text;
     while !rest.is_empty() {
-        let line = first_line(rest, numbers);
+        let (line, length) = next_line(rest, numbers);
         if line.head_kind == Head::Number {
             return number_in(&rest[..line.head]) == Some(number);
         }
-        rest = &rest[whole_length(rest)..];
+        rest = &rest[length..];
     }
     false
 }
@@ -120,7 +124,7 @@ fn are_listed(text: &[u8], numbers: Numbers) -> bool {
     let mut number = None;
     let mut first = None;
     while !rest.is_empty() {
-        let line = first_line(rest, numbers);
+        let (line, length) = next_line(rest, numbers);
         let is_number = line.head_kind == Head::Number;
         if is_number && has_own && line.is_step {
             return false;
@@ -134,7 +138,7 @@ fn are_listed(text: &[u8], numbers: Numbers) -> bool {
         if is_number {
             number = number_in(&rest[..line.head]);
         }
-        rest = &rest[whole_length(rest)..];
+        rest = &rest[length..];
         if line.is_moves && is_open {
             if has_own {
                 return !are_of_steps(rest, numbers, first, number)
@@ -152,10 +156,11 @@ fn are_listed(text: &[u8], numbers: Numbers) -> bool {
 fn has_number(text: &[u8], numbers: Numbers) -> bool {
     let mut rest = text;
     while !rest.is_empty() {
-        if first_head(rest, numbers) == Head::Number {
+        let (line, length) = cut_text(rest);
+        if head_in_front(line, numbers) == Head::Number {
             return true;
         }
-        rest = &rest[whole_length(rest)..];
+        rest = &rest[length..];
     }
     false
 }

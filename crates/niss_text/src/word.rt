@@ -1,12 +1,13 @@
 //! The words of a line: moves that stand alone, moves in one word, and words that are no moves.
-ghost use Rattle.std.specs.Prelude.{◌≡◌, ◌≤◌, ◌<◌, ◌==◌, ◌||◌, ℕ, true, false, length, drop, slice_index, IfSome, IsSome};
-ghost use Rattle.niss_text.specs.Doubts.{is_capital};
-ghost use Rattle.niss_text.specs.Kept.{ArePlain, follows, is_over, begins_with_move};
+ghost use Rattle.std.specs.Prelude.{◌≡◌, ◌≤◌, ◌<◌, ℕ, true, length, slice_index};
+ghost use Rattle.niss_text.specs.Kept.{AreInNotation, begins_with_move, follows_move, goes_on, needs_more};
 ghost use Rattle.niss_text.specs.declared.word.Word.TheVariants.{Move};
 
 use crate::forms::count_length;
+use crate::short_word::short_word;
+use crate::sights::is_capital;
 use crate::sign::{Kind, first_kind, first_sign};
-use crate::spelling::{Spelling, is_capital_move, is_small_move};
+use crate::spelling::{Spelling, is_capital_move};
 use crate::words::is_step_name;
 
 /// What a word of a line is.
@@ -62,23 +63,34 @@ fn is_parting(kind: Kind) -> bool {
     )
 }
 
-/// Whether a byte may follow another one where all is moves by capitals, each a word of its own.
+/// Whether a byte may follow another one of moves in the WCA's notation, each a word of its own.
+#[tactic(auto, unfolding(crate::specs::Kept::follows_move))]
 fn follows_moves(before: u8, byte: u8) -> bool
-    ensures plain { follows before byte ≡ true → result ≡ true }
+    ensures is { result ≡ follows_move before byte }
     ensures slash { result ≡ true → byte ≡ 47 → ⊥ }
 {
-    match byte {
-        b' ' => true,
-        b'2' | b'\'' => before != b' ',
-        _ => before == b' ' && is_capital_move(byte),
+    match before {
+        0xe2 => byte == 0x80,
+        0x80 => byte == 0x99,
+        b' ' => byte == b' ' || (byte == b'(' || is_capital_move(byte)),
+        b'(' => is_capital_move(byte),
+        b')' => byte == b' ',
+        _ => goes_on(byte) || (byte == b'w' && is_capital(before)),
     }
 }
 
-/// Whether a text is moves by capitals, each a word of its own: what most lines are, of which nothing else is to be told.
+/// Whether a byte may stand after any but the first of a move.
+fn goes_on(byte: u8) -> bool
+    ensures { result ≡ goes_on byte }
+{
+    matches!(byte, b' ' | b'2' | b'\'' | b')' | 0xe2)
+}
+
+/// Whether a text is such moves: what most lines are, of which nothing else is to be told.
 #[inline(never)]
 pub fn are_plain_moves(text: &[u8]) -> bool
     ensures some { result ≡ true → 0 < length text.now }
-    ensures plain { ArePlain text.now → result ≡ true }
+    ensures plain { AreInNotation text.now → result ≡ true }
     ensures slash { result ≡ true → (k : ℕ) → slice_index text.now k ≡ 47 → ⊥ }
 {
     if text.is_empty() || text[0] == b' ' {
@@ -91,7 +103,15 @@ pub fn are_plain_moves(text: &[u8]) -> bool
         }
         before = *byte;
     }
-    true
+    !needs_more(before)
+}
+
+/// Whether a byte of such moves is followed by another one: it is of U+2019 but the last, or opens a bracket.
+#[tactic(auto, unfolding(crate::specs::Kept::needs_more))]
+fn needs_more(byte: u8) -> bool
+    ensures { result ≡ needs_more byte }
+{
+    matches!(byte, 0xe2 | 0x80 | b'(')
 }
 
 /// One more than a number, three at most.
@@ -279,73 +299,6 @@ fn has_glued_moves(word: &[u8]) -> bool {
         }
     }
     false
-}
-
-/// Whether a text ends at a place, or has a blank there.
-fn ends_word(text: &[u8], at: usize) -> bool
-    ensures within { result ≡ false → at < length text.now }
-    ensures is { result ≡ is_over (drop at text.now) }
-{
-    if at >= text.len() {
-        return true;
-    }
-    text[at] == b' '
-}
-
-/// Whether a move may begin with a byte.
-fn begins_move(byte: u8) -> bool
-    ensures { is_capital byte ≡ true → result ≡ true }
-{
-    is_capital_move(byte) || is_small_move(byte)
-}
-
-/// Whether a byte may stand after the letter of a move and end it.
-fn ends_move(byte: u8) -> bool
-    ensures { result ≡ ((byte == 50) || (byte == 39)) }
-{
-    byte == b'2' || byte == b'\''
-}
-
-/// How many bytes a move has in front of a text that is a word by itself, a letter or one with one sign after it; else 0.
-fn move_length(text: &[u8]) -> usize
-    requires { 0 < length text.now }
-    ensures fits { result ≤ length text.now }
-    ensures some { begins_with_move text.now ≡ true → 0 < result }
-{
-    if !begins_move(text[0]) {
-        return 0;
-    }
-    if ends_word(text, 1) {
-        return 1;
-    }
-    if ends_move(text[1]) && ends_word(text, 2) {
-        2
-    } else {
-        0
-    }
-}
-
-/// A word in front of a text that is one letter or digit, or a move with one sign after it, and how many bytes it has:
-/// most words are.
-fn short_word(text: &[u8]) -> Option<(Word, usize)>
-    requires { 0 < length text.now }
-    ensures fits { IfSome result (λ word. (0 < word.1) × (word.1 ≤ length text.now)) }
-    ensures some { begins_with_move text.now ≡ true → IsSome result }
-    ensures single { IfSome result (λ word. begins_with_move text.now ≡ true → word.0 ≡ Move) }
-{
-    let length = move_length(text);
-    if length > 0 {
-        return Some((Word::Move, length));
-    }
-    if !ends_word(text, 1) {
-        return None;
-    }
-    match text[0] {
-        b'A'..=b'Z' | b'a'..=b'z' => Some((Word::Other, 1)),
-        b'2' | b'3' => Some((Word::Number, 1)),
-        b'0'..=b'9' => Some((Word::Total, 1)),
-        _ => None,
-    }
 }
 
 /// The first word of a text, and how many bytes it has.

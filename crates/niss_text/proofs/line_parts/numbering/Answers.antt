@@ -1,6 +1,6 @@
 use Rattle.std.proofs.Common.{ℕ, List, ◌≡◌, ◌+◌, take, subst, arith}
 use Rattle.niss_text.specs.Kept.{BeginNoMoves, begins_moves}
-use Rattle.niss_text.proofs.KeptLemmas.{none_then, moves_begin}
+use Rattle.niss_text.proofs.KeptLemmas.{none_more, moves_begin}
 use Rattle.niss_text.proofs.line_parts.numbering.Goals as goal
 
 pub returns-clause-begin : goal.returns-clause-begin
@@ -13,6 +13,6 @@ returns-clause-begin c =
     let after : List ℕ = c.from_place.result.now in
     let there : begin + (number + blanks) ≡ begin + number + blanks = omega arith in
     subst (λ n. BeginNoMoves (take n line)) there
-    (none_then begins_moves line numbered begin (number + blanks) (moves_begin (take begin line) c.margin-begin.ensures.empty) c.from_place-numbered.ensures
-    (none_then begins_moves numbered after number blanks c.number_length-number.ensures.begin c.from_place.ensures
+    (none_more begins_moves line numbered begin (number + blanks) (moves_begin (take begin line) c.margin-begin.ensures.empty) c.from_place-numbered.ensures
+    (none_more begins_moves numbered after number blanks c.number_length-number.ensures.begin c.from_place.ensures
     (moves_begin (take blanks after) c.blanks.ensures.empty)))

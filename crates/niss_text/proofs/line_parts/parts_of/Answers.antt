@@ -1,4 +1,4 @@
-use Rattle.std.proofs.Common.{ℕ, List, ◌≡◌, ◌+◌, ◌-◌, ◌≤◌, length, drop, get_or, length-drop, ap, take, slice_range, sym, ◌∙◌, subst, arith}
+use Rattle.std.proofs.Common.{ℕ, List, ◌≡◌, ◌+◌, ◌-◌, ◌<◌, ◌≤◌, length, drop, get_or, length-drop, ap, take, slice_range, sym, ◌∙◌, subst, arith}
 use Rattle.niss_text.specs.Signs.{AreSigns, is_spacing}
 use Rattle.niss_text.specs.Kept.{IsTitleEnd}
 use Rattle.niss_text.proofs.KeptLemmas.{blank_title, whole_title, part_long}
@@ -6,7 +6,8 @@ use Rattle.niss_text.proofs.WordLemmas.{comment_begins}
 use Rattle.niss_text.proofs.CommentLemmas.{parts_plain}
 use Rattle.niss_text.proofs.SaidLemmas.{no_slashes}
 use Rattle.niss_text.proofs.FrontLemmas.{labelled}
-use Rattle.std.proofs.lemmas.List.{get_or-drop}
+use Rattle.std.proofs.lemmas.List.{get_or-drop, get_or-take}
+use Rattle.niss_text.specs.Doubts.{is_letter as is_plain_letter}
 use Rattle.niss_text.proofs.line_parts.parts_of.Goals.{then-words-eq0, else-words-eq0, then-span-eq0, else-span-eq0}
 use Rattle.niss_text.proofs.line_parts.parts_of.Goals as goal
 
@@ -69,6 +70,31 @@ returns-clause-uncommented c =
     no_slashes line c.from_place.result.now head c.comment_at.result (body + c.span_of-span.result.begin + c.blanks.result)
     (body + c.span_of-span.result.end) c.from_place.ensures c.comment_at.ensures.first (omega arith)
     (omega (arith, first, second, c.span_of-span.ensures.fits, part_long line body slashes))
+
+pub returns-clause-entitled : goal.returns-clause-entitled
+returns-clause-entitled c = λ lt.
+    let line : List ℕ = c.args.line.now in
+    let head : ℕ = c.args.head in
+    let begin : ℕ = head + c.numbering.result in
+    let words : ℕ = c.title_of-words.result.0 in
+    let body : ℕ = begin + c.title_of-words.result.1 in
+    let span = c.span_of-span.result in
+    let slashes : ℕ = head + c.comment_at.result in
+    let first : c.numbering.result ≤ slashes - head = omega (arith, c.numbering.ensures.fits, part_long line head slashes) in
+    let second : c.title_of-words.result.1 ≤ slashes - begin = omega (arith, c.title_of-words.ensures.fits, part_long line begin slashes) in
+    let third : span.end ≤ slashes - body = omega (arith, c.span_of-span.ensures.fits, part_long line body slashes) in
+    elim c.if-span-eq0.branch [
+      | then-span-eq0 w ↦ absurd (omega (arith, lt, w.result-is))
+      | else-span-eq0 w ↦ elim c.if-words-eq0.branch [
+        | then-words-eq0 v ↦ absurd (omega (arith, lt, w.result-is, v.title_end-is))
+        | else-words-eq0 v ↦
+            let less : begin + words < body + span.begin = omega (arith, lt, w.result-is, v.title_end-is) in
+            let within : words < slashes - begin = omega (arith, less, first, second, third, span.in_order) in
+            ap (λ n. is_plain_letter (get_or line n 0)) v.title_end-is
+            ∙ sym (ap is_plain_letter (get_or-take (slashes - begin) (drop begin line) words 0 within ∙ get_or-drop begin line words 0))
+            ∙ c.title_of-words.ensures.words (omega (arith, v.if-words-eq0.false))
+      ]
+    ]
 
 pub returns-clause-plain : goal.returns-clause-plain
 returns-clause-plain c = λ count top before.

@@ -1,4 +1,4 @@
-use Rattle.std.proofs.Common.{◌≡◌, ℕ, ◌-◌, ◌+◌, ◌<◌, ◌≤◌, List, false, drop, get_or, length, length-drop, sym, refl, ap, subst, ◌∙◌, arith}
+use Rattle.std.proofs.Common.{◌≡◌, ℕ, ◌-◌, ◌+◌, ◌<◌, ◌≤◌, List, false, drop, get_or, length, length-drop, sym, ap, subst, ◌∙◌, arith}
 use Rattle.std.proofs.lemmas.Bool.{false≢true}
 use Rattle.std.proofs.lemmas.List.{drop-drop, get_or-drop, length-take-le}
 use Rattle.niss_text.specs.Doubts.{is_letter as is_plain_letter}
@@ -18,9 +18,9 @@ returns-then-has-clause-said c = λ yes.
     let text : List ℕ = c.args.text.now in
     let rest : List ℕ = c.loop-rest.rest.now in
     let inv = c.loop-rest.invariant in
-    let letters = c.length_of-letters in
+    let letters = c.letters_in_front-letters in
     said_here (words_of c.args.wanted) text rest (length text - length rest) letters.result inv.rest (omega arith) letters.ensures.fits
-    (c.has.ensures.said c.if-has.true) (inv.before (omega (arith, c.if-letters-gt1.true, letters.ensures.fits))) (letters.ensures.all_letters refl)
+    (c.has.ensures.said c.if-has.true) (inv.before (omega (arith, c.if-letters-gt1.true, letters.ensures.fits))) (letters.ensures.all_letters)
 
 pub loop-rest-preserved : goal.loop-rest-preserved
 loop-rest-preserved c =
@@ -29,7 +29,7 @@ loop-rest-preserved c =
     let next : List ℕ = c.from_place-rest.result.now in
     let others : List ℕ = c.from_place-others.result.now in
     let inv = c.loop-rest.invariant in
-    let letters = c.length_of-letters in
+    let letters = c.letters_in_front-letters in
     let l : ℕ = letters.result in
     let s : ℕ = c.sign_size.result in
     let behind : others ≡ drop l rest = c.from_place-others.ensures in
@@ -42,9 +42,9 @@ loop-rest-preserved c =
       fits = omega (arith, far.0, inv.fits);
       rest = far.1;
       before = λ some more. passed_last text rest (length text - length rest) l s (length text - length next) inv.rest
-          (c.sign_size.ensures.some (omega (arith, some, far.0, ap length behind, length-drop l rest))) (letters.ensures.all_letters refl) inner
+          (c.sign_size.ensures.some (omega (arith, some, far.0, ap length behind, length-drop l rest))) (letters.ensures.all_letters) inner
           (omega (arith, far.0, inv.fits));
-      left = λ all has. left_next (words_of c.args.wanted) rest next l s is fits (letters.ensures.letters refl) (letters.ensures.all_letters refl)
+      left = λ all has. left_next (words_of c.args.wanted) rest next l s is fits (letters.ensures.letters) (letters.ensures.all_letters)
           (λ k some lt. sym (ap is_plain_letter (get_or-drop l rest k 0)) ∙ inner k some lt) all
           (λ more said. elim c.else-letters-gt1.branch [
             | else-letters-gt1-via-then-letters-gt1+else-has w ↦ false≢true (sym w.if-has.false ∙ w.has.ensures.all (omega (arith, more, length-take-le l rest letters.ensures.fits)) said)

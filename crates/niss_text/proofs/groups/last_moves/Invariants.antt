@@ -1,5 +1,5 @@
 use Rattle.std.proofs.Common.{◌≤◌, length}
-use Rattle.niss_text.proofs.groups.ends_written_out.Given as goal
+use Rattle.niss_text.proofs.groups.last_moves.Given as goal
 
 abbrev pub invariant-loop-rest : goal.invariant-loop-rest
 invariant-loop-rest l = length l.rest ≤ length l.text

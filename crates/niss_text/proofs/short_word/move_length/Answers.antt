@@ -1,8 +1,8 @@
 use Rattle.std.proofs.Common.{◌∙◌, sym, inl, inr}
 use Rattle.std.proofs.lemmas.Bool.{false≢true}
 use Rattle.niss_text.proofs.WordLemmas.{move_parts}
-use Rattle.niss_text.proofs.word.move_length.Goals.{else-ends_move-via-then-ends_move+else-ends_word-2, else-ends_move-via-else-ends_move}
-use Rattle.niss_text.proofs.word.move_length.Goals as goal
+use Rattle.niss_text.proofs.short_word.move_length.Goals.{else-ends_move-via-then-ends_move+else-ends_word-2, else-ends_move-via-else-ends_move}
+use Rattle.niss_text.proofs.short_word.move_length.Goals as goal
 
 pub returns-then-not-begins_move-clause-some : goal.returns-then-not-begins_move-clause-some
 returns-then-not-begins_move-clause-some c = λ is.
