@@ -79,6 +79,13 @@ def reads_one(tally: Tally, browser: Browser) -> None:
         )
 
 
+def goes_on_where_it_ended(tally: Tally, browser: Browser) -> None:
+    """Moves by hand go on the side of the last step that is read."""
+    for text, line, side in (("R U F\n\nD\n(L)", "D (L)", "inverse side"), ("R U F\n\n(D)\nL", "(D) L", "normal side")):
+        browser.open()
+        browser.walk(tally, f"{text!r}", ("script", PASTE, text, {}), ("comes", "bracketed", line, {"side": side}))
+
+
 def doubts(tally: Tally, browser: Browser) -> None:
     """A text that may be meant otherwise than it is read: why is said, with the place marked, until anything is changed, and not beside a fault."""
     for text, scramble, said, sign, before in DOUBTS:

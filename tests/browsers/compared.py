@@ -3,6 +3,7 @@ from collections import Counter
 
 from best import LONGER, address_of
 from browser import Browser, Keys
+from kept import ADDRESS_OF_EXAMPLE, KEPT_SAID
 from program import program_answers
 from tally import Tally
 from wanted import SIDES, TITLES, Position
@@ -127,6 +128,22 @@ def chosen(tally: Tally, browser: Browser) -> None:
         ("comes", "steps", 1, {"comparison?": False}),
     )
     tally.holds("it is one of them", browser.text("bracketed") in map(line_of, (EO, OTHER)))
+
+
+def goes_on_where_it_ended(tally: Tally, browser: Browser) -> None:
+    """Who goes on with a line types on the side of its last step, or of the reduction that it was kept with, whatever side was typed on before."""
+    sides = {"(B D R F2 B D)": "normal side", "R' U F' R L": "normal side", "U (R)": "inverse side"}
+    browser.open(ADDRESS_OF_EXAMPLE + "&kept=inverse.B_D_R_F2_B_D;;drfb-eoud,normal.R-_U_F-_R_L,normal.U~inverse.R")
+    browser.until(KEPT_SAID)
+    kept = browser.look("kept lines")
+    tally.equal("all of them", sorted(kept), sorted(sides))
+    for key in ("i", "n"):
+        for place, line in enumerate(kept, 1):
+            browser.script("document.activeElement.blur()")
+            browser.press(key)
+            browser.click(f"#kept-list > li:nth-child({place}) [data-control^='on ']")
+            tally.holds(f"{line} after {key} is gone on with", browser.comes("bracketed", line))
+            tally.equal(f"{line} after {key}", browser.text("side"), sides[line])
 
 
 def says_nothing_of_no_steps(tally: Tally, browser: Browser) -> None:

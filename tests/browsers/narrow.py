@@ -54,9 +54,10 @@ SMALL = """return all("button, select, summary, input:not([type=checkbox]), text
 IN_VIEW = """
     const { top, bottom, height } = part(arguments[0]).getBoundingClientRect();
     return height > 0 && top >= 0 && bottom <= innerHeight"""
+# solutions on more lines than so many
 BROKEN = """
     return all("#solutions-groups .take").filter((each) => each.textContent.split(" ").length <= 8
-        && each.clientHeight >= 2 * parseFloat(getComputedStyle(each).lineHeight)).map((each) => each.textContent)"""
+        && each.clientHeight >= (1 + arguments[0]) * parseFloat(getComputedStyle(each).lineHeight)).map((each) => each.textContent)"""
 # rows of the best in which what is reached and what follows don't stand on one line
 UNEVEN = """const top = (words) => {
         const range = document.createRange();
@@ -280,7 +281,11 @@ def places(tally: Tally, browser: Browser) -> None:
         tally.holds(f"{width}: after a step the table begins at {top}", 0 <= top < (500 if is_narrow else 600))
         browser.act("#steps-body tr:has(.least) .cell")
         tally.holds(f"{width}: there are long solutions", any(len(moves.split()) == 8 for moves in browser.listed()))
-        tally.equal(f"{width}: solutions of more than one line", browser.script(BROKEN), [])
+        # on a phone with the cases that they pass
+        most = 2 if is_narrow else 1
+        tally.equal(f"{width}: solutions of more than {most} lines", browser.script(BROKEN, most), [])
+        cases = "return all('#solutions-groups .passed').filter((each) => getComputedStyle(each, '::before').display === 'none').length"
+        tally.equal(f"{width}: cases of a list that aren't seen", browser.script(cases), 0)
         browser.act("#solutions-groups .take")
         in_view(
             "the last step",

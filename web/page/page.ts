@@ -73,7 +73,9 @@ export class Page {
       isSeen: (added, next) => this.#seen.has(this.#state.scramble, [...this.#state.parts, ...added], next),
     };
     this.#kept = new KeptCandidates(this.#keptCalls, {
-      goOn: (parts, list) => this.#change({ parts, list }, { focusNext: list ? "list" : "table" }),
+      goOn: (parts, list) => this.#change({
+        parts, list, side: (list?.side ?? lastSideOf(lastOf(parts))) === "normal" ? "normal" : "inverse",
+      }, { focusNext: list ? "list" : "table" }),
       change: (kept) => this.#change({ kept }),
     });
     const list = newCalls();
@@ -184,7 +186,8 @@ export class Page {
       const { unread, parts, kept, doubt, doubted, undoing } = await this.#byHand.ask("readWritten", fmc);
       if (turn !== this.#turn) return;
       const joined = withOthers(this.#state.kept, asCopied(kept, fmc.copied ?? [], this.#state.kept));
-      this.#change({ ...(parts.length > 0 && { parts }), kept: joined.kept }, { isStep: !isNew });
+      const line = parts.length > 0 ? { parts, side: lastSideOf(lastOf(parts)) } : {};
+      this.#change({ ...line, kept: joined.kept }, { isStep: !isNew });
       tell(part("alert"), whyUnread(unread) || joined.why);
       // once, if it can be mended
       if (doubt === null || doubted < 0) this.#scramble.tellDoubt(doubt);
