@@ -29,7 +29,7 @@ enum class doubt_reason {
     which_scramble = NISSY_WHICH_SCRAMBLE, // of a check: it isn't seen which of the known scrambles this is of, or it solves another
     step_or_scramble = NISSY_STEP_OR_SCRAMBLE,
     signs = NISSY_SIGNS,
-    another_attempt = NISSY_ANOTHER_ATTEMPT // of a check: it is solved before a line in which another attempt may begin
+    another_attempt = NISSY_ANOTHER_ATTEMPT // of a check: it is solved, and another attempt may begin there
 };
 
 // A doubt, and where it is seen in the text.

@@ -132,8 +132,6 @@ inline attempt solution_of(std::string_view text, const text_lines &lines, const
     attempt read = attempt_of(text, lines, places);
     read.name = words_of(text, told.name_begin, told.name_end);
     if (!lines.has(is_of_scramble) && told.scramble != NISSY_NO_SCRAMBLE) read.scramble = {scrambles[told.scramble], {}, {}};
-    const bool is_of_reading = told.doubt != NISSY_NO_DOUBT && told.doubt != NISSY_A_PART && told.doubt != NISSY_ANOTHER_ATTEMPT;
-    read.doubt = is_of_reading ? std::optional(attempt_doubt{static_cast<doubt_reason>(told.doubt), places.at(told.doubt_at)}) : std::nullopt;
     return read;
 }
 

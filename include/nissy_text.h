@@ -46,7 +46,9 @@ enum nissy_doubt {
                                   * of the text begin and end with R' U' F, or it stands again below; of a check: by itself it is solved, or another
                                   * one stands beside a known scramble's solution */
     NISSY_SEVERAL_SOLUTIONS = 2, /* which of several groups is the solution can't be seen, or a list has those of several scrambles; or a step stands
-                                  * below one that follows it, by their numbers or names */
+                                  * below one that follows it, by their numbers or names; of a check also if it is solved: a step as long as a
+                                  * scramble isn't of the solution and doesn't solve, but has its turns, once both are cleaned, but in one place,
+                                  * where each has two at most */
     NISSY_SIDE = 3,              /* another side than the normal one is named, such as the inverse, and the moves have no brackets */
     NISSY_LETTERS = 4,           /* letters stand together as moves don't elsewhere in the line, such as F2L or xD */
     NISSY_SMALL_LETTERS = 5,     /* a scramble has a turn in a small letter, or a step has no others */
@@ -55,13 +57,16 @@ enum nissy_doubt {
     NISSY_REPETITION = 7,        /* moves are said to be made several times, as in "(R U)x2", at the end of a step "R U x2", or in a comment */
     NISSY_INSERTION = 8,         /* a step has a mark at which others belong, such as "[1]" between moves or "*" after them, or tells what belongs
                                   * there, as "* = R U"; or it is said that moves are inserted, or that others are
-                                  * meant, which counts in each note after the scramble */
+                                  * meant, which counts in each note after the scramble. Insertions and repetitions that are denied, as in "no
+                                  * insertion", and in a line without moves sides, as in "nothing on the inverse", are none. Of a check: a
+                                  * comment has a turn with which, beside that step, all steps solve */
     /* 9, 10 and 13 are told of checks */
     NISSY_STEP_OR_SCRAMBLE = 11, /* a line after the scramble may be of it, or of another one. Of a check this counts also if it is solved */
     NISSY_SIGNS = 12             /* moves may be written by signs that aren't read so: by commas between some of them, by letters that look like
                                   * theirs, such as wide ones, or in a link; or so many have no apostrophe that these may have been lost, or one of
                                   * so many is a slice, whose letter F or B was taken for; or R' U' F stands at one end of a scramble, or a tab
-                                  * between some moves */
+                                  * between some moves; of a check: a digit, "!", "?", "|" or "()", the only one beside steps, stands where with a
+                                  * turn all steps solve */
 };
 
 /* A line of such a text. The places are in bytes of the text, from 0, and don't fall from one to the next, nor from line to line. Its moves
@@ -191,9 +196,11 @@ typedef struct nissy_part_answer {
 nissy_part_answer nissy_solving_part(const uint8_t *scramble, size_t scramble_length, const uint8_t *steps, size_t steps_length);
 
 /* What makes one doubt a check too. */
-#define NISSY_A_PART 9           /* a part of the steps solves the scramble, as nissy_solving_part tells */
-#define NISSY_WHICH_SCRAMBLE 10  /* it can't be seen which of the known scrambles it is a solution of, or it solves another one */
-#define NISSY_ANOTHER_ATTEMPT 13 /* it is solved already before a line as long as a scramble: another attempt may begin there */
+#define NISSY_A_PART 9          /* a part of the steps solves the scramble, as nissy_solving_part tells */
+#define NISSY_WHICH_SCRAMBLE 10 /* it can't be seen which of the known scrambles it is a solution of, or it solves another one */
+#define NISSY_ANOTHER_ATTEMPT                                                                                                                        \
+    13 /* it is solved already before a line as long as a scramble; or two steps as long, which aren't of the solution and                           \
+        * after which nothing is said, stand one after another, and neither solves: another attempt may begin there */
 
 /* The place of what has none in the text. */
 #define NISSY_NO_PLACE UINT64_MAX
@@ -207,12 +214,15 @@ typedef struct nissy_attempt_check {
     uint64_t end_line;        /* which is the first after them */
     uint64_t fault_at;        /* after NISSY_FAULT where it stands in the text; NISSY_NO_PLACE of a known scramble, or if nothing is at fault */
     uint64_t doubt_at;        /* where the doubt is seen; NISSY_NO_PLACE if there is none */
-    uint8_t doubt;            /* of what is solved NISSY_STEP_OR_SCRAMBLE, or else NISSY_ANOTHER_ATTEMPT; if it is neither, that of its first line
-                               * that has one; else NISSY_A_PART of what isn't solved, or none. With known scrambles, before these,
+    uint8_t doubt;            /* of what is solved NISSY_STEP_OR_SCRAMBLE, or else NISSY_ANOTHER_ATTEMPT, or else NISSY_SEVERAL_SOLUTIONS by its
+                               * steps, as told above; if it is none of these, that of its first line that has one, whatever it is; else of what
+                               * isn't solved NISSY_A_PART, or NISSY_INSERTION or NISSY_SIGNS if it would be with a turn that the text shows
+                               * beside a step, or none. With known scrambles, before these,
                                * NISSY_WHICH_SCRAMBLE of what has none or, as told below, NISSY_ANOTHER_SCRAMBLE; and after these
                                * NISSY_WHICH_SCRAMBLE, if its solution doesn't solve its own one, but another of the first 64 */
-    uint8_t doubted;          /* the doubt counts: nothing is at fault, and there is no solution that solves, or it is
-                               * NISSY_STEP_OR_SCRAMBLE or NISSY_ANOTHER_ATTEMPT */
+    uint8_t doubted;          /* the doubt counts: nothing is at fault, and there is no solution that solves, or it is NISSY_STEP_OR_SCRAMBLE or one
+                               * that the check tells, NISSY_ANOTHER_ATTEMPT or NISSY_SEVERAL_SOLUTIONS. One of its lines that is
+                               * NISSY_SEVERAL_SOLUTIONS doesn't count if it is solved */
     uint8_t checked;          /* it has a solution, and it can be seen of which scramble: then `check` says more than a fault */
     nissy_check_answer check; /* what nissy_check says of its scramble and its solution, which is empty if there is none */
     uint8_t unused[4];        /* nothing, so that it has one size on all systems */

@@ -227,8 +227,10 @@ class Reader:
         candidates = tuple(self._candidates(begin, end, told, made)) if has_groups else ()
         return steps, made[1] if told else None, candidates
 
-    def attempt(self, begin: int, end: int, doubt: Optional[AttemptDoubt]) -> Attempt:
-        """Returns the attempt that the lines from one to another are, which is in this doubt."""
+    def attempt(self, begin: int, end: int) -> Attempt:
+        """Returns the attempt that the lines from one to another are, in the doubt of its first line that has one."""
+        doubts = self._doubts[begin:end].lstrip(b"\0")
+        doubt = self.doubt(doubts[0], self._numbers[_NUMBERS * (end - len(doubts)) + _DOUBT_AT]) if doubts else None
         headed, before = self._are_headed.find(1, begin, end), self._kinds.count(_BEFORE, begin, end)
         scramble = self._of_scramble.of(begin, end)
         # the first head
@@ -238,14 +240,9 @@ class Reader:
         steps, solution, candidates = self._after_scramble(begin, end)
         return value_of(Attempt, (name, scramble, steps, solution, candidates, before, doubt))
 
-    def doubt(self, number: int, byte: int) -> Optional[AttemptDoubt]:
+    def doubt(self, number: int, byte: int) -> AttemptDoubt:
         """Returns a doubt by the library's number, which is seen at a byte of the text."""
-        return value_of(AttemptDoubt, (_DOUBTS[number], self.whole.place_of_byte(byte))) if number else None
-
-    def doubt_among(self, begin: int, end: int) -> Optional[AttemptDoubt]:
-        """Returns what makes one doubt the first line that is in doubt."""
-        doubts = self._doubts[begin:end].lstrip(b"\0")
-        return self.doubt(doubts[0], self._numbers[_NUMBERS * (end - len(doubts)) + _DOUBT_AT]) if doubts else None
+        return value_of(AttemptDoubt, (_DOUBTS[number], self.whole.place_of_byte(byte)))
 
 
 def read_attempts(text: Text) -> Sequence[Attempt]:
@@ -254,4 +251,4 @@ def read_attempts(text: Text) -> Sequence[Attempt]:
     same of several numbered scrambles. A text of another form is one scramble."""
     reader = Reader(Written(text))
     attempts = reader.attempts() or [(0, 0)]
-    return Lazily(len(attempts), lambda at: reader.attempt(*attempts[at], reader.doubt_among(*attempts[at])))
+    return Lazily(len(attempts), lambda at: reader.attempt(*attempts[at]))

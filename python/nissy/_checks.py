@@ -18,8 +18,8 @@ from ._written import PlainLine, TextPlace, Written, end_unless_made, string_of
 _Told = Tuple[Any, ...]
 # where those of its check begin
 _OF_CHECK = 10
-# the library's numbers of no scramble and of no place, and of the doubts that aren't of the reading
-_NONE, _OF_CHECKS = 2**64 - 1, (9, 13)
+# the library's number of no scramble and of no place
+_NONE = 2**64 - 1
 # a text as long as that has as many bytes written of it and of its lines as are never too few
 _MOST_OF_BYTE, _PLACE = 6, 8
 
@@ -52,8 +52,8 @@ class AttemptCheck(NamedTuple):
     forms: Tuple[FormInText, ...]
     """Where the solution has its forms; none if there is no check."""
     doubt: Optional[AttemptDoubt] = None
-    """What makes one doubt that the attempt is read as it was meant; None if it has a fault, and if it is solved but
-    for "step or scramble" and "another attempt"."""
+    """What makes one doubt that the attempt is read as it was meant; None if it has a fault. Of one that is solved it
+    is "step or scramble", "another attempt", "several solutions", or None."""
 
     def as_dict(self) -> Dict[str, Any]:
         """What is said of it, as json.dumps takes it, with the `name` of the attempt, and its scramble and solution as
@@ -134,10 +134,7 @@ class _Checks:
         """Returns what is said of an attempt. Raises Fault if a line of it has too many bytes."""
         _, _, _, first, end, fault_at, doubt_at, number, is_doubted, is_checked = told[:_OF_CHECK]
         status, fault, line, solved, column, moves, clean_moves, forms = told[_OF_CHECK:]
-        doubt = self._reader.doubt(number, doubt_at) if number else None
-        # that of its reading
-        read = None if number in _OF_CHECKS else doubt
-        attempt = self._reader.attempt(first, end, read)
+        attempt = self._reader.attempt(first, end)
         if self._scrambles is not None:
             attempt = self._of_known(attempt, told)
         if status != DONE:
@@ -145,7 +142,7 @@ class _Checks:
             return value_of(
                 AttemptCheck, (attempt, None, _fault(attempt, status, fault, column, line), place, (), None)
             )
-        doubt = doubt if is_doubted else None
+        doubt = self._reader.doubt(number, doubt_at) if is_doubted else None
         if attempt.solution is None or not is_checked:
             return value_of(AttemptCheck, (attempt, None, None, None, (), doubt))
         places = _forms_in(attempt.solution, self._whole) if forms else ()
@@ -186,8 +183,7 @@ def _forms_in(solution: PlainLine, whole: Written) -> Tuple[FormInText, ...]:
 def check_attempts(text: Text, *, scrambles: Optional[Iterable[Text]] = None) -> Sequence[AttemptCheck]:
     """The attempts of a text as solvers write it, as `read_attempts` returns them, each with what `check` says of its
     scramble and solution, or the fault of one of them, and where fault and forms stand in the text; and what makes one
-    doubt the reading of one that isn't solved. Each is made when it is asked for. Raises Fault if one has too many
-    bytes.
+    doubt how it is read. Each is made when it is asked for. Raises Fault if one has too many bytes.
 
     With `scrambles` the text has only solutions, each under a head with the number of its scramble in this list, such
     as `2.` or `Attempt 2 of 3`; or as many without numbers, in its order. There is a check for each scramble in its

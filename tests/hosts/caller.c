@@ -170,18 +170,71 @@ static void say_part(text of, lines those, const written *scramble) {
 }
 
 /* Where another attempt may begin after what solves, if there is such a place: at a line of some fifteen moves after which nothing is said. */
-static void say_another(text of, lines those, const written *scramble) {
+static int say_another(text of, lines those, const written *scramble) {
     size_t at = 0, steps = 0;
     for (; at < those.count; at++) {
         const nissy_text_line *const line = those.first + at;
         if (line->kind != NISSY_STEP_LINE || !line->solution) continue;
         if (steps++ && line->comment == line->end && line->comment - line->moves >= 40) break;
     }
-    if (at == those.count) return;
+    if (at == those.count) return 0;
     const written before = moves_of(of, (lines){those.first, at}, NISSY_OF_SOLUTION);
-    if (nissy_check(scramble->bytes, scramble->length, before.bytes, before.length).solved)
-        say_text(DOUBTS[NISSY_ANOTHER_ATTEMPT]), say_place(of, those.first[at].moves);
+    const int is_another = nissy_check(scramble->bytes, scramble->length, before.bytes, before.length).solved;
+    if (is_another) say_text(DOUBTS[NISSY_ANOTHER_ATTEMPT]), say_place(of, those.first[at].moves);
     let_go(before);
+    return is_another;
+}
+
+/* The turns of a line, cleaned, each by its two bytes, if it can be read. */
+typedef struct turns {
+    unsigned of[512];
+    size_t count;
+    int are_read;
+} turns;
+
+static turns turns_of(const written *line) {
+    uint8_t joined[NISSY_LINE_ROOM], clean[NISSY_LINE_ROOM];
+    turns it = {{0}, 0, 0};
+    const nissy_line_answer one = nissy_unniss(line->bytes, line->length, joined, sizeof joined);
+    it.are_read = one.status == NISSY_DONE;
+    if (!it.are_read) return it;
+    const uint64_t length = nissy_cleanup(joined, one.length, clean, sizeof clean).length;
+    for (uint64_t at = 0; at < length; at++)
+        if (clean[at] >= 'A' && clean[at] <= 'Z') it.of[it.count++] = 256u * clean[at] + (at + 1 < length ? clean[at + 1] : ' ');
+    return it;
+}
+
+/* Whether two sequences are the same but in one place, where each has two turns at most. */
+static int are_near(const turns *one, const turns *other) {
+    const size_t least = one->count < other->count ? one->count : other->count;
+    size_t begin = 0, end = 0;
+    while (begin < least && one->of[begin] == other->of[begin]) begin++;
+    while (end < least - begin && one->of[one->count - 1 - end] == other->of[other->count - 1 - end]) end++;
+    return one->count <= begin + end + 2 && other->count <= begin + end + 2;
+}
+
+/* What the steps that aren't of the solution and are as long as a scramble make one doubt, if they don't solve: two of them one after another,
+ * after which nothing is said, may be another attempt; else one may be the solution with a slip. */
+static void say_beside(text of, lines those, const attempt *it) {
+    const turns solution = turns_of(&it->solution);
+    const nissy_text_line *above = NULL, *slip = NULL;
+    for (size_t at = 0; at < those.count; at++) {
+        const nissy_text_line *const line = those.first + at;
+        if (line->kind != NISSY_STEP_LINE) continue;
+        const int is_long_other = !line->solution && line->comment - line->moves >= 40;
+        const written moves = moves_of(of, (lines){line, is_long_other}, NISSY_OF_EACH_STEP);
+        const turns own = turns_of(&moves);
+        const int is_unsolving = is_long_other && !nissy_check(it->scramble.bytes, it->scramble.length, moves.bytes, moves.length).solved;
+        let_go(moves);
+        if (is_unsolving && own.are_read && !slip && are_near(&solution, &own)) slip = line;
+        const int is_apart = is_unsolving && line->comment == line->end;
+        if (is_apart && above) {
+            say_text(DOUBTS[NISSY_ANOTHER_ATTEMPT]), say_place(of, above->moves);
+            return;
+        }
+        above = is_apart ? line : NULL;
+    }
+    if (slip) say_text(DOUBTS[NISSY_SEVERAL_SOLUTIONS]), say_place(of, slip->moves);
 }
 
 static int is_solved_by_itself(const written *scramble) {
@@ -199,8 +252,8 @@ static void say_doubt(text of, lines those) {
             say_text(DOUBTS[NISSY_STEP_OR_SCRAMBLE]), say_place(of, those.first[stray].doubt_at);
         else if (is_solved_by_itself(&it.scramble))
             say_text(DOUBTS[NISSY_ANOTHER_ATTEMPT]), say_place(of, it.scramble.places[0]);
-        else
-            say_another(of, those, &it.scramble);
+        else if (!say_another(of, those, &it.scramble))
+            say_beside(of, those, &it);
     }
     if (it.check.status == NISSY_DONE && !is_solved) {
         if (at < those.count)

@@ -6,6 +6,7 @@ none that is read right may be in doubt. Those of tests/misread.tsv are known to
 """
 import ctypes
 import random
+import re
 import sys
 from pathlib import Path
 from types import FrameType
@@ -49,8 +50,11 @@ WHOLE = FREE.replace("\n", " ")
 FREE_STEPS = "R L2 U F // EO\nR2 U2 D L' U F' U2 D2 // DR\nB2 U2 F' U F R' D2 U2 R2 B U2 // finish"
 OTHER = "F2 U2 L D F U' R2 B L R2 U2 B' D' R F L B2 D F' B' U2 D F2"
 OTHER_STEPS = "F2 D' U2 B // EO\nF D' B2 L' F' R' D B // DR\nU2 R2 L' B' R2 U F' D' L' U2 F2 // finish"
+# their steps as one line each, and the first solution with a letter lost
+WHOLE_STEPS, WHOLE_OF_OTHER = (re.sub(r" // \w+\n?", " ", it).strip() for it in (FREE_STEPS, OTHER_STEPS))
+SLIPPED = OF_FIRST.replace("L' D2", "L D2")
 # how many are read right, of the table and of those that words make: what is stays so
-LEAST_RIGHT, LEAST_RIGHT_BY_WORDS = 352, 117
+LEAST_RIGHT, LEAST_RIGHT_BY_WORDS = 368, 118
 WORDS = "F2L LL xD BLD LUL FML LS ELL SB Dry Bu DR FR EO".split()
 
 
@@ -114,6 +118,13 @@ def misread(tally: Tally) -> None:
         tally.holds(f"{kind.name} is misread still: {found}", found in ("silent", "none"))
 
 
+def readings(tally: Tally) -> None:
+    """An attempt that is checked is as it is read, also if its check tells of another doubt."""
+    for kind in listed():
+        checked, read = [it.attempt for it in nissy.check_attempts(kind.text)], [*nissy.read_attempts(kind.text)]
+        tally.equal(f"the attempts of {kind.name}", checked, read)
+
+
 def slips(tally: Tally) -> None:
     """A solution with a slip is unsolved, and mostly in no doubt."""
     draw, doubts, count = random.Random(1), 0, 0
@@ -163,6 +174,9 @@ def doubts(tally: Tally) -> None:
         f"{OTHER}\n{OTHER_STEPS}\n\n{OTHER}\n{OTHER_STEPS}": ("step or scramble", 6, 1),
         f"{OTHER}\n{OTHER_STEPS}\n---\n{OTHER}\n{OTHER_STEPS}": ("another attempt", 6, 1),
         "1. R U\n1. U' R'\n\n2. F D\n1. D' F'": ("another attempt", 1, 4),
+        f"Task: {OTHER}\nAns: {WHOLE_OF_OTHER}\n\nTask: {WHOLE}\nAns: {WHOLE_STEPS}": ("another attempt", 4, 7),
+        f"{FIRST}\n{OF_FIRST}\n\nFinal: {SLIPPED}": ("several solutions", 4, 8),
+        f"{FIRST}\n{OF_FIRST}\n\nFinal: {OF_SECOND}\n\nPaper: {SLIPPED} // 23": ("several solutions", 6, 8),
         "R U F\n\nF' U, R' D": ("signs", 3, 5),
         "R U F\n\nhttps://cubing/?alg=F-_U-": ("signs", 3, 1),
         "R U F\n\nSolution: \uff26 \uff35": ("signs", 3, 11),
@@ -175,6 +189,10 @@ def doubts(tally: Tally) -> None:
         f"{LOST}\nR U": ("signs", 1, 1),
         f"{FIRST[:-3]} F\nR U": ("signs", 1, 1),
         "R U F\n\nF' U\tR' D": ("signs", 3, 5),
+        "R U F D\n\nD' F' 8 // EO\nR' // finish": ("signs", 3, 7),
+        "R U F D B\n\nB' D' // EO\n| U' R' // finish": ("signs", 4, 1),
+        "R U F D\n\nD' F' // EO, then U'\nR' // finish": ("insertion", 3, 19),
+        "R U F D\n\nF' U' // (after D')\nR' // finish": ("insertion", 3, 17),
         "R U F\n\nfinish: F' U\nEO: D": ("several solutions", 4, 5),
         "R U F\n\n2) F' U\n1) D": ("several solutions", 4, 4),
         "R U F\n\nSolution: F' U' D\n\nPS: a mistake": ("insertion", 5, 7),
@@ -190,6 +208,12 @@ def doubts(tally: Tally) -> None:
         "R U F\n\nF', U', R",
         "R U F\n\nF' U' R // on normal",
         "1. R U F\n\nSolutions:\n1. F' U' R'",
+        # a turn was lost, but nothing shows it: no sign, two signs, a turn in another comment, another turn, a face
+        "R U F D\n\nD' F' // EO\nR' // finish",
+        "R U F D B L\n\nL' B' D' 8 // EO\nU' R' ? // finish",
+        "R U F D\n\nD' // EO with U'\nF' // DR\nR' // finish",
+        "R U F D\n\nD' F' // EO, then U2\nR' // finish",
+        "R U F D'\n\nF' U' // EO :D\nR' // finish",
     ):
         tally.equal(f"no doubt of {text!r}", [it.doubt for it in nissy.check_attempts(text)], [None])
 
@@ -253,4 +277,4 @@ def times(tally: Tally) -> None:
 
 
 if __name__ == "__main__":
-    tried(kinds, misread, slips, doubts, calls, times)
+    tried(kinds, misread, readings, slips, doubts, calls, times)

@@ -22,3 +22,7 @@ pub mod ReadingLemmas
 pub mod BracketLemmas
 pub mod TailLemmas
 pub mod SetLemmas
+pub mod NearLemmas
+pub mod BesideLemmas
+pub mod LostLemmas
+pub mod ShownLemmas

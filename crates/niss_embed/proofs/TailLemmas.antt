@@ -186,7 +186,7 @@ parted_to text bounds a (suc n) parted up l =
     subst Rests (joined_steps text (slice_index bounds a) (slice_index bounds (a + 1)) (slice_index bounds (a + 1 + n)) first next ∙ ap (steps_line text bounds a) end)
     (rests_both (steps_line text bounds a (a + 1)) (steps_line text bounds (a + 1) (a + 1 + n)) (parted a (omega (arith, l)) AsWritten) rest)
 
-rests_between : (text bounds : List ℕ) (a b : ℕ) → AreParted text bounds → Ascends bounds → a ≤ b → b + 1 < length bounds → Rests (steps_line text bounds a b)
+pub rests_between : (text bounds : List ℕ) (a b : ℕ) → AreParted text bounds → Ascends bounds → a ≤ b → b + 1 < length bounds → Rests (steps_line text bounds a b)
 rests_between text bounds a b parted up ab l =
     let is : a + (b - a) ≡ b = omega (arith, ab) in
     subst (λ (n : ℕ). Rests (steps_line text bounds a n)) is (parted_to text bounds a (b - a) parted up (omega (arith, is, l)))

@@ -1,14 +1,15 @@
 -- What is told of attempts that were checked.
-use Rattle.std.specs.Prelude.{◌≡◌, ℕ, zero, suc, ◌+◌, ◌-◌, ◌<◌, ◌==◌, if◌then◌else◌, nat_lt, Bool, true, false, not, ◌&&◌, ◌||◌, ⊤, ◌≤◌, ◌↔◌, IsTrue, Ok, min, List, [], ◌∷◌, length, take, drop, get_or, slice_range}
+use Rattle.std.specs.Prelude.{◌≡◌, ℕ, zero, suc, ◌+◌, ◌-◌, ◌<◌, ◌==◌, if◌then◌else◌, nat_lt, Bool, true, false, not, ◌&&◌, ⊤, ◌≤◌, ◌↔◌, IsTrue, Ok, min, Option, List, [], ◌∷◌, length, take, drop, get_or, slice_range}
 use Rattle.std.specs.List.{list_any, range_with_len}
-use Rattle.niss_text.specs.Moves.{AreJoined, is_wanted}
-use Rattle.niss_text.specs.declared.left_out.LeftOut.{LeftOut}
-use Rattle.niss_text.specs.declared.moves.MovesOf.{MovesOf}
+use Rattle.std.specs.Option.{unwrap_or}
+use Rattle.niss_text.specs.Moves.{is_wanted}
 use Rattle.niss_text.specs.declared.moves.MovesOf.TheVariants.{Scramble, Solution, EachStep}
-use Rattle.niss_text.specs.declared.moves.MovesPart.{MovesPart}
 use Rattle.niss_text.specs.declared.text_line.TextLine.{TextLine}
+pub use Rattle.niss_embed.specs.Doubts.{AreWritten, doubt, no_doubt, no_place, or_else}
 use Rattle.niss_embed.specs.Another.{IsBeforeAnother}
+use Rattle.niss_embed.specs.Beside.{IsDoubtBeside, is_long_other}
 use Rattle.niss_embed.specs.LineFacts.{check_of}
+use Rattle.niss_embed.specs.LostTurn.{IsLost}
 use Rattle.niss_embed.specs.Parts.{TellsPart}
 use Rattle.niss_embed.specs.declared.attempt_checks.AttemptCheck.{AttemptCheck}
 use Rattle.niss_embed.specs.declared.judged.Judged.{Judged}
@@ -26,26 +27,10 @@ use Rattle.niss_shell.specs.declared.command.Rewriting.TheVariants.{Print}
 use Rattle.niss_embed.specs.LineFacts.{unchecked}
 use Rattle.niss_embed.specs.declared.answer.Status.TheVariants.{Done}
 use Rattle.niss_embed.specs.declared.attempts.Doubt.{Doubt}
+use Rattle.niss_embed.specs.declared.told.Told.{Told}
 use Rattle.niss_embed.specs.declared.fact_answers.CheckAnswer.{CheckAnswer}
 use Rattle.niss_embed.specs.declared.parts.PartAnswer.{PartAnswer}
 use Rattle.niss_embed.specs.declared.runs.Run.{Run}
-
--- the place of what has none in the text
-abbrev pub no_place : ℕ
-no_place = 18446744073709551615
-
--- The wanted moves of some lines of a text are this line, with these places; which of their signs are blanks is open.
-pub record AreWritten (text : List ℕ) (of : MovesOf) (lines : List TextLine) (bytes places : List ℕ) : Type 0 where
-  pub left : LeftOut
-  pub room : ℕ
-  pub parts : List MovesPart
-  pub joined : AreJoined text of lines bytes places left room parts
-
-abbrev pub doubt : (reason at : ℕ) → Doubt
-doubt reason at = record { reason = reason; at = at }
-
-abbrev pub no_doubt : Doubt
-no_doubt = doubt 0 no_place
 
 -- what makes one doubt the first of some lines that is in doubt
 abbrev pub first_doubt : List TextLine → Doubt
@@ -67,24 +52,24 @@ abbrev pub outcome_of : (has_solution : Bool) → CheckAnswer → Outcome
 outcome_of has_solution check =
     if not (check.status == 0) then AtFault else (if has_solution && check.solved then Solved else Unsolved)
 
--- a doubt counts if nothing solves, or if a line may be of a scramble, or another attempt may begin
-abbrev pub counts : Outcome → (reason : ℕ) → Bool
-counts AtFault reason = false
-counts Solved reason = (reason == 11) || (reason == 13)
-counts Unsolved reason = not (reason == 0)
-
 -- the doubt that a part solves which begins at a byte of the steps, of the place of that
 abbrev pub doubt_of_part : PartAnswer → (places : List ℕ) → Doubt
 doubt_of_part part places = if part.how == 0 then no_doubt else doubt 9 (get_or places part.begin no_place)
 
--- A part of the steps solves, or none, and that is the doubt.
+-- The doubt is that a part of the steps solves, or if none does, that a turn was lost.
+abbrev pub IsPartOrLost : (is_none : Bool) → PartAnswer → (scramble steps places text : List ℕ) (lines : List TextLine) (told : Doubt) → Type 0
+IsPartOrLost false part scramble steps places text lines told = told ≡ doubt_of_part part places
+IsPartOrLost true part scramble steps places text lines told =
+    (lost : Option Doubt) × IsLost scramble steps text lines lost × (told ≡ unwrap_or lost no_doubt)
+
+-- A part of the steps solves, or all of them with a turn, or none, and that is the doubt.
 pub record IsDoubtOfSteps (text : List ℕ) (lines : List TextLine) (scramble : List ℕ) (told : Doubt) : Type 0 where
   pub steps : List ℕ
   pub places : List ℕ
   pub part : PartAnswer
   pub are_steps : AreWritten text EachStep lines steps places
   pub tells : TellsPart scramble steps part
-  pub told_is : told ≡ doubt_of_part part places
+  pub told_is : IsPartOrLost (part.how == 0) part scramble steps places text lines told
 
 -- What isn't solved is in doubt by its scramble if that is solved by itself, else by its steps.
 abbrev pub IsDoubtOfUnsolved : (is_solved : Bool) → (text : List ℕ) (lines : List TextLine) (scramble places : List ℕ) (told : Doubt) → Type 0
@@ -111,29 +96,36 @@ abbrev pub IsDoubtOfSolved : (is_solved : Bool) → (text : List ℕ) (lines : L
 IsDoubtOfSolved true text lines scramble places told = told ≡ doubt 13 (get_or places 0 no_place)
 IsDoubtOfSolved false text lines scramble places told = IsBegunAgain text lines scramble told
 
--- of some lines the first one that may be of a scramble, or another doubt if none may
-abbrev pub stray_or : Doubt → List TextLine → Doubt
-stray_or read [] = read
-stray_or read (line ∷ lines) = if line.doubt == 11 then doubt 11 line.doubt_at else stray_or read lines
+-- the doubt of the first of some lines that may be of a scramble
+abbrev pub first_stray : List TextLine → Doubt
+first_stray [] = no_doubt
+first_stray (line ∷ lines) = if line.doubt == 11 then doubt 11 line.doubt_at else first_stray lines
 
--- of what is solved what counts: before all that a line may be of a scramble, then that another attempt may begin
-abbrev pub or_another : (read another : Doubt) → Doubt
-or_another read another = if (read.reason == 11) || (another.reason == 0) then read else another
+-- a doubt, which counts or not
+abbrev pub told : Doubt → (counts : Bool) → Told
+told doubt counts = record { doubt = doubt; counts = counts }
 
--- What is solved is in doubt by a line that may be of a scramble, or else since another attempt may begin, or else by its
--- reading.
-pub record IsDoubtThoughSolved (text : List ℕ) (lines : List TextLine) (scramble places : List ℕ) (read told : Doubt) : Type 0 where
+-- What is found of what is solved counts. If nothing is, the doubt is that of its reading.
+abbrev pub told_of_solved : (found read : Doubt) → Told
+told_of_solved found read = told (or_else found read) (not (found.reason == 0))
+
+-- Of what is solved a line may be of a scramble; or else another attempt may begin; or else steps make one doubt it that
+-- aren't of its solution.
+pub record IsDoubtThoughSolved (text : List ℕ) (lines : List TextLine) (scramble places : List ℕ) (read : Doubt) (it : Told) : Type 0 where
   pub another : Doubt
   pub is_another : IsDoubtOfSolved (is_solved scramble places) text lines scramble places another
-  pub told_is : told ≡ or_another (stray_or read lines) another
+  pub beside : Doubt
+  pub is_beside : IsDoubtBeside (list_any is_long_other lines) text lines scramble beside
+  pub it_is : it ≡ told_of_solved (or_else (first_stray lines) (or_else another beside)) read
 
 -- The doubt is that of the reading, or if there is none, one of what isn't solved; of what is solved one that counts, if
--- there is one.
-abbrev pub IsDoubt : (is_none : Bool) → Outcome → (text : List ℕ) (lines : List TextLine) (scramble places : List ℕ) (read told : Doubt) → Type 0
-IsDoubt is_none AtFault text lines scramble places read told = told ≡ read
-IsDoubt is_none Solved text lines scramble places read told = IsDoubtThoughSolved text lines scramble places read told
-IsDoubt false Unsolved text lines scramble places read told = told ≡ read
-IsDoubt true Unsolved text lines scramble places read told = IsDoubtOfUnsolved (is_solved scramble places) text lines scramble places told
+-- there is one. None counts of what is at fault.
+abbrev pub IsDoubt : (is_none : Bool) → Outcome → (text : List ℕ) (lines : List TextLine) (scramble places : List ℕ) (read : Doubt) (it : Told) → Type 0
+IsDoubt is_none AtFault text lines scramble places read it = it ≡ told read false
+IsDoubt is_none Solved text lines scramble places read it = IsDoubtThoughSolved text lines scramble places read it
+IsDoubt false Unsolved text lines scramble places read it = it ≡ told read true
+IsDoubt true Unsolved text lines scramble places read it =
+    (it.counts ≡ not (it.doubt.reason == 0)) × IsDoubtOfUnsolved (is_solved scramble places) text lines scramble places it.doubt
 
 -- What is told of an attempt with these lines and this scramble, of which each byte has its place, and of whose reading
 -- this makes one doubt it.
@@ -144,8 +136,8 @@ pub record IsChecked (text : List ℕ) (lines : List TextLine) (scramble places 
   pub check_is : it.check ≡ check_of scramble solution
   pub fault_is : it.fault_at ≡ fault_place it.check places solution_places
   pub checked_is : it.is_checked ≡ list_any (is_wanted Solution) lines
-  pub counts : it.is_doubted ≡ counts (outcome_of it.is_checked it.check) it.doubt
-  pub doubt_is : IsDoubt (read.reason == 0) (outcome_of it.is_checked it.check) text lines scramble places read (doubt it.doubt it.doubt_at)
+  pub doubt_is : IsDoubt (read.reason == 0) (outcome_of it.is_checked it.check) text lines scramble places read
+      (told (doubt it.doubt it.doubt_at) it.is_doubted)
 
 -- The same of an attempt whose scramble stands in its lines.
 pub record IsOwn (text : List ℕ) (lines : List TextLine) (it : Judged) : Type 0 where

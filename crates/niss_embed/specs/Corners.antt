@@ -135,3 +135,7 @@ pub record IsAroundPart (scramble : Moves) (text bounds : List ℕ) (first behin
   pub ordered : (first ≤ behind) × (behind < length bounds)
   pub are : around.attempt.now.are_lines ≡ true →
       IsAround around (steps_line text bounds 0 first) (steps_line text bounds first behind) (steps_line text bounds behind (length bounds - 1))
+
+-- the same before the step of a number and from it on
+abbrev pub IsAroundBorder : (scramble : Moves) (text bounds : List ℕ) (number : ℕ) → Around → Type 0
+IsAroundBorder scramble text bounds number around = (number + 1 < length bounds) × IsAroundPart scramble text bounds number number around

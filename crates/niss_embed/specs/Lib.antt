@@ -10,7 +10,12 @@ pub mod TwoLines
 pub mod BestWays
 pub mod ListedSides
 pub mod Parts
+pub mod ShownTurn
+pub mod LostTurn
 pub mod Another
+pub mod Doubts
+pub mod Ends
+pub mod Beside
 pub mod Attempts
 pub mod Runs
 pub mod DeadSteps

@@ -2,11 +2,11 @@
 ghost use Rattle.std.specs.Prelude.{◌≡◌, ◌<◌, length};
 ghost use Rattle.niss_embed.specs.Another.{IsBeforeAnother, is_long_step, may_begin};
 
-use crate::attempts::{has_solution, is_of_solution};
+use crate::step_lines::{has_solution, is_of_solution};
 use niss_text::TextLine;
 
 /// How many bytes a scramble has at least, on one line: those of fifteen moves.
-const SCRAMBLE_BYTES: usize = 40;
+pub(crate) const SCRAMBLE_BYTES: usize = 40;
 
 /// Whether a line is a step of the solution that is as long as a scramble, and after which nothing is said.
 fn is_long_step(line: &TextLine) -> bool

@@ -1,19 +1,21 @@
 //! Whether the solution of an attempt of a text solves its scramble, and what makes one doubt that it is read as it was
 //! meant.
 ghost use Rattle.std.specs.Prelude.{◌≡◌, ◌≤◌, ◌<◌, ◌*◌, ◌==◌, IfSome, IsSome, length, take, get_or};
-ghost use Rattle.std.specs.List.{list_any};
-ghost use Rattle.niss_text.specs.Moves.{is_wanted, number_of_moves, most_bytes};
+ghost use Rattle.niss_text.specs.Moves.{number_of_moves, most_bytes};
 ghost use Rattle.niss_text.specs.declared.moves.MovesOf.{MovesOf};
-ghost use Rattle.niss_text.specs.declared.moves.MovesOf.TheVariants.{Solution};
 ghost use Rattle.niss_embed.specs.Attempts.{AreWritten, IsChecked, IsDoubt, IsOwn, doubt, is_solved, no_doubt, no_place};
-ghost use Rattle.niss_embed.specs.Attempts.{first_doubt, fault_place, outcome_of, counts, doubt_of_part, told_from, IsBegunAgain, IsDoubtOfSteps};
-ghost use Rattle.niss_embed.specs.Attempts.{IsDoubtOfSolved, IsDoubtOfUnsolved, or_another, stray_or};
+ghost use Rattle.niss_embed.specs.Attempts.{first_doubt, fault_place, outcome_of, doubt_of_part, told_from, IsBegunAgain, IsDoubtOfSteps};
+ghost use Rattle.niss_embed.specs.Attempts.{IsDoubtOfSolved, IsDoubtOfUnsolved, IsDoubtThoughSolved, first_stray, or_else};
 
 use crate::another::lines_before_another;
+use crate::beside::doubt_beside;
 use crate::fact_answers::CheckAnswer;
 use crate::judged::Judged;
 use crate::line_facts::check_line;
+use crate::lost_turn::lost_turn;
 use crate::parts::{PartAnswer, solving_part};
+use crate::step_lines::has_solution;
+use crate::told::Told;
 use niss_text::{TextLine, text_moves};
 
 /// Whose moves of some lines are wanted, and of which kinds these are, by the numbers of `niss_text`.
@@ -21,9 +23,7 @@ pub(crate) const OF_SCRAMBLE: u8 = 0;
 
 pub(crate) const OF_SOLUTION: u8 = 2;
 
-const OF_EACH_STEP: u8 = 3;
-
-const STEP_LINE: u8 = 3;
+pub(crate) const OF_EACH_STEP: u8 = 3;
 
 /// The doubt that a scramble is more than that.
 const ANOTHER_SCRAMBLE: u8 = 1;
@@ -35,7 +35,7 @@ const A_PART: u8 = 9;
 const STEP_OR_SCRAMBLE: u8 = 11;
 
 /// The doubt that another attempt begins after what solves.
-const ANOTHER_ATTEMPT: u8 = 13;
+pub(crate) const ANOTHER_ATTEMPT: u8 = 13;
 
 /// What has no place in the text, or is of none of the known scrambles.
 pub(crate) const NONE: usize = usize::MAX;
@@ -68,20 +68,6 @@ pub struct Given<'a> {
     pub doubt: Doubt,
 }
 
-/// Whether a line is of a solution.
-pub(crate) fn is_of_solution(line: &TextLine) -> bool
-    ensures { result ≡ is_wanted Solution line.now }
-{
-    line.kind == STEP_LINE && line.is_solution != 0
-}
-
-/// Whether one of some lines is.
-pub(crate) fn has_solution(lines: &[TextLine]) -> bool
-    ensures { result ≡ list_any (is_wanted Solution) lines.now }
-{
-    lines.iter().any(|line| is_of_solution(line))
-}
-
 /// What makes one doubt the first of some lines that is in doubt.
 pub(crate) fn first_doubt(lines: &[TextLine]) -> Doubt
     ensures { result ≡ first_doubt lines.now }
@@ -99,9 +85,9 @@ pub(crate) fn first_doubt(lines: &[TextLine]) -> Doubt
     Doubt::none()
 }
 
-/// Of some lines the first one that may be of a scramble, or another doubt if none may.
-fn stray_or(read: Doubt, lines: &[TextLine]) -> Doubt
-    ensures { result ≡ stray_or read lines.now }
+/// The doubt of the first of some lines that may be of a scramble.
+fn first_stray(lines: &[TextLine]) -> Doubt
+    ensures { result ≡ first_stray lines.now }
 {
     let mut rest = lines;
     while let Some((line, after)) = rest.split_first() {
@@ -113,19 +99,15 @@ fn stray_or(read: Doubt, lines: &[TextLine]) -> Doubt
         }
         rest = after;
     }
-    read
+    Doubt::none()
 }
 
 impl Doubt {
-    /// That of a reading, or that another attempt may begin: of what is solved what counts.
-    fn or_another(self, another: Doubt) -> Doubt
-        ensures { result ≡ or_another self another }
+    /// The first of two doubts, if it is one.
+    pub(crate) fn or_else(self, other: Doubt) -> Doubt
+        ensures { result ≡ or_else self other }
     {
-        if self.reason == STEP_OR_SCRAMBLE || another.reason == 0 {
-            self
-        } else {
-            another
-        }
+        if self.reason == 0 { other } else { self }
     }
 
     pub(crate) fn none() -> Doubt
@@ -200,17 +182,6 @@ impl Outcome {
             Outcome::Unsolved
         }
     }
-
-    /// Whether a doubt of this number counts.
-    fn counts(self, reason: u8) -> bool
-        ensures { result ≡ counts self reason }
-    {
-        match self {
-            Outcome::AtFault => false,
-            Outcome::Solved => matches!(reason, STEP_OR_SCRAMBLE | ANOTHER_ATTEMPT),
-            Outcome::Unsolved => reason != 0,
-        }
-    }
 }
 
 /// Writes the moves of some lines, and says how many bytes these are, if there is room.
@@ -233,7 +204,8 @@ pub(crate) fn moves_of(
     }
 }
 
-/// What makes one doubt an attempt that isn't solved: that a part of its steps solves.
+/// What makes one doubt an attempt that isn't solved: that a part of its steps solves, or that they do with a turn that was
+/// lost, and the text shows it.
 fn doubt_of_steps(
     text: &[u8],
     lines: &[TextLine],
@@ -246,7 +218,10 @@ fn doubt_of_steps(
 {
     let count = moves_of(text, lines, OF_EACH_STEP, out, places)?;
     let part = solving_part(scramble, &out[..count]);
-    Some(Doubt::of_part(&part, &places[..count]))
+    if part.how != 0 {
+        return Some(Doubt::of_part(&part, &places[..count]));
+    }
+    Some(lost_turn(scramble, &out[..count], text, lines).unwrap_or(Doubt::none()))
 }
 
 /// What makes one doubt an attempt that is solved: that it is so before a line in which another one may begin.
@@ -318,26 +293,44 @@ impl Given<'_> {
         doubt_of_steps(text, lines, self.scramble, out, places)
     }
 
+    /// What makes one doubt the attempt though it is solved: that a line may be of a scramble, or that another attempt may
+    /// begin, or what stands beside its solution. Else the doubt of its reading is told.
+    fn told_though_solved(
+        &self,
+        text: &[u8],
+        lines: &[TextLine],
+        out: &mut [u8],
+        places: &mut [u64],
+    ) -> Option<Told>
+        ensures is { IfSome result (λ it. IsDoubtThoughSolved text.now lines.now self.now.scramble.now self.now.places.now self.now.doubt it) }
+        ensures room { most_bytes lines.now ≤ length out.old → most_bytes lines.now ≤ length places.old → IsSome result }
+    {
+        let another = self.doubt_of_solved(text, lines, out, places)?;
+        let beside = doubt_beside(text, lines, self.scramble, out, places)?;
+        let found = first_stray(lines).or_else(another.or_else(beside));
+        Some(Told::of_solved(found, self.doubt))
+    }
+
     /// What makes one doubt the attempt, by its reading and how its check ended.
-    fn doubt_of(
+    fn told_of(
         &self,
         text: &[u8],
         lines: &[TextLine],
         outcome: Outcome,
         out: &mut [u8],
         places: &mut [u64],
-    ) -> Option<Doubt>
-        ensures is { IfSome result (λ told. IsDoubt (self.now.doubt.reason == 0) outcome text.now lines.now self.now.scramble.now self.now.places.now self.now.doubt told) }
+    ) -> Option<Told>
+        ensures is { IfSome result (λ it. IsDoubt (self.now.doubt.reason == 0) outcome text.now lines.now self.now.scramble.now self.now.places.now self.now.doubt it) }
         ensures room { most_bytes lines.now ≤ length out.old → most_bytes lines.now ≤ length places.old → IsSome result }
     {
         match outcome {
-            Outcome::AtFault => Some(self.doubt),
-            Outcome::Solved => {
-                let another = self.doubt_of_solved(text, lines, out, places)?;
-                Some(stray_or(self.doubt, lines).or_another(another))
+            Outcome::AtFault => Some(Told::of_fault(self.doubt)),
+            Outcome::Solved => self.told_though_solved(text, lines, out, places),
+            Outcome::Unsolved if self.doubt.reason != 0 => Some(Told::of_unsolved(self.doubt)),
+            Outcome::Unsolved => {
+                let doubt = self.doubt_of_unsolved(text, lines, out, places)?;
+                Some(Told::of_unsolved(doubt))
             }
-            Outcome::Unsolved if self.doubt.reason != 0 => Some(self.doubt),
-            Outcome::Unsolved => self.doubt_of_unsolved(text, lines, out, places),
         }
     }
 }
@@ -358,12 +351,12 @@ pub(crate) fn check_by(
     let fault_at = fault_place(&check, given.places, &places[..count]);
     let has_solution = has_solution(lines);
     let outcome = Outcome::of(has_solution, &check);
-    let doubt = given.doubt_of(text, lines, outcome, out, places)?;
+    let told = given.told_of(text, lines, outcome, out, places)?;
     Some(Judged {
         fault_at,
-        doubt_at: doubt.at,
-        doubt: doubt.reason,
-        is_doubted: outcome.counts(doubt.reason),
+        doubt_at: told.doubt.at,
+        doubt: told.doubt.reason,
+        is_doubted: told.counts,
         is_checked: has_solution,
         check,
     })

@@ -8,13 +8,14 @@ ghost use Rattle.niss_embed.specs.LineFacts.{IsReadAs};
 ghost use Rattle.niss_embed.specs.Attempts.{IsTried, attempts_from, elsewhere, is_open, solves_known, solves_some};
 
 use crate::attempts::{
-    Doubt, Given, NONE, OF_SCRAMBLE, OF_SOLUTION, check_by, check_own, first_doubt, has_solution,
-    moves_of, place_at,
+    Doubt, Given, NONE, OF_SCRAMBLE, OF_SOLUTION, check_by, check_own, first_doubt, moves_of,
+    place_at,
 };
 use crate::judged::Judged;
 use crate::line_facts::is_solved;
 use crate::line_texts::read_by;
 use crate::runs::{Placed, Run, next_run};
+use crate::step_lines::has_solution;
 use crate::stretch::stretch;
 use niss_moves::{LineReader, LineText, Niss};
 use niss_shell::{MOST_BYTES, Rewriting, rewrite};

@@ -19,7 +19,7 @@ use niss_moves::{LineReader, Niss};
 use niss_shell::MOST_BYTES;
 
 /// The most bytes that steps have in which a part is looked for.
-const MOST_STEP_BYTES: usize = 65_536;
+pub const MOST_STEP_BYTES: usize = 65_536;
 
 /// What `solving_part` returns.
 #[repr(C)]

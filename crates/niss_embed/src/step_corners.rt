@@ -1,11 +1,11 @@
 //! What steps of an attempt do to the corners of the cube.
-ghost use Rattle.std.specs.Prelude.{◌≡◌, ◌<◌, ◌≤◌, ◌+◌, ℕ, not, true, false, List, [], ◌++◌, ◌&&◌, ◌||◌, Ok, map, IfSome, length};
+ghost use Rattle.std.specs.Prelude.{◌≡◌, ◌<◌, ◌≤◌, ◌+◌, ◌-◌, ℕ, not, true, false, List, [], ◌++◌, ◌&&◌, ◌||◌, Ok, map, IfSome, length};
 ghost use Rattle.niss_moves.specs.Effects.{inverse};
 ghost use Rattle.niss_moves.specs.Line.{Moves, joined_moves};
 ghost use Rattle.niss_moves.specs.Reader.{read_line};
 ghost use Rattle.niss_embed.specs.Corners.{Brings, Reads, has_bracket, AreBounds, AreSteps, IsAround, IsAroundPart, IsAttempt, IsTail, AreTails};
-ghost use Rattle.niss_embed.specs.DeadSteps.{AreParted, IsParted, StandsNowhere, StaysDead};
-ghost use Rattle.niss_embed.specs.Parts.{read_byte, arranged, bare_step, repeated, solves_line, solves_part, solves_so_often, part, in_brackets_if};
+ghost use Rattle.niss_embed.specs.DeadSteps.{AreParted, IsParted, Rests, StandsNowhere, StaysDead};
+ghost use Rattle.niss_embed.specs.Parts.{read_byte, arranged, bare_step, repeated, solves_line, solves_part, solves_so_often, steps_line, part, in_brackets_if};
 ghost use Rattle.niss_embed.specs.declared.step_reading.Reading.TheVariants.{AsWritten};
 
 use crate::corners::Corners;
@@ -336,6 +336,18 @@ impl<'a> Around<'a> {
             result ≡ false → solves_part (Ok scramble) text bounds (part how first behind) ≡ false }
     {
         self.attempt.may_solve(&self.line(how))
+    }
+
+    /// Whether all steps may solve the scramble with bytes that do this between them, where none of them stands.
+    #[inline(never)]
+    pub fn may_insert(&self, own: &StepCorners) -> bool
+        ensures { (scramble : Moves) (text bounds : List ℕ) (number : ℕ) (bytes : List ℕ) → IsAroundPart scramble text bounds number number self.now →
+            number + 1 < length bounds → Reads bytes own.now → Rests bytes → result ≡ false →
+            solves_line (Ok scramble) (read_line (steps_line text bounds 0 number ++ bytes ++ steps_line text bounds number (length bounds - 1))) ≡ false }
+    {
+        let later = own.with_later(&self.after, false);
+        self.attempt
+            .may_solve(&self.before.with_later(&later, false))
     }
 
     /// Whether all steps may solve the scramble if their own one does this without its brackets, and is made so often.

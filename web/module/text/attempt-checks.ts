@@ -1,5 +1,5 @@
 // What the module says of each attempt of a text, as values: whether it is solved, where faults and forms stand in the
-// text, and what makes one doubt the reading of an attempt that isn't solved.
+// text, and what makes one doubt how an attempt is read.
 import { NAMES_OF_CHECK, checkFrom, errorIn, type OfTwo } from "../calls/replies.js";
 import { characterAt } from "../shared/bytes.js";
 import { NissyFault, withoutTraces } from "../shared/faults.js";
@@ -18,7 +18,7 @@ export type FormInText = Pick<FormPlace, "text" | "forms"> & { place: TextPlace 
 
 /** An attempt of a text. `check` is null if it has no solution or a fault: `fault`, whose `part` says which line, and
  * its `place` in the text. `forms` are those of a solution that was checked. `doubt` tells why an attempt may be read
- * otherwise than it was meant, and is null if it is solved, has a fault, or is in none. */
+ * otherwise than it was meant, and is null if it has a fault or is in none, as most are that are solved. */
 export type AttemptCheck = {
   attempt: Attempt;
   check: Check | null;
@@ -44,13 +44,11 @@ class CheckReader {
     this.#attempts = new AttemptReader(this.#written, told);
   }
 
-  /** @param doubt of the check, which is that of its reading too unless it is one of what solves */
-  #attempt(at: number, doubt: AttemptDoubt | null): Attempt {
+  #attempt(at: number): Attempt {
     const { told: { checks }, scrambles } = this;
     const first = ATTEMPT_READ.firstLine(checks, at);
     const end = ATTEMPT_READ.endLine(checks, at);
-    const isOfCheck = ["a part", "another attempt"].includes(doubt?.reason ?? "");
-    const attempt = this.#attempts.attempt(first, end, isOfCheck ? null : doubt);
+    const attempt = this.#attempts.attempt(first, end);
     if (scrambles === undefined) return attempt;
     attempt.name = this.#written.part(ATTEMPT_READ.nameBegin(checks, at), ATTEMPT_READ.nameEnd(checks, at));
     // a great number says of none
@@ -78,10 +76,11 @@ class CheckReader {
 
   check(at: number): AttemptCheck {
     const { checks } = this.told;
-    const doubt = this.#attempts.doubt(ATTEMPT_READ.doubt(checks, at), ATTEMPT_READ.doubtAt(checks, at));
-    const attempt = this.#attempt(at, doubt);
+    const attempt = this.#attempt(at);
     const made: AttemptCheck = { attempt, place: null, forms: [], doubt: null, check: null, fault: null };
-    if (ATTEMPT_READ.doubted(checks, at) === 1) made.doubt = doubt;
+    if (ATTEMPT_READ.doubted(checks, at) === 1) {
+      made.doubt = this.#attempts.doubt(ATTEMPT_READ.doubt(checks, at), ATTEMPT_READ.doubtAt(checks, at));
+    }
     const answer = at + ATTEMPT_CHECK.at.check;
     if (HEAD.read.status(checks, answer) !== STATUS.done) {
       made.fault = this.#fault(answer, attempt);

@@ -145,24 +145,28 @@ export class AttemptReader {
     return place === null ? null : { reason: REASONS[number] as AttemptDoubt["reason"], place };
   }
 
+  /** @returns the doubt of the first of some lines that has one */
+  #doubtAmong(first: number, end: number): AttemptDoubt | null {
+    const nth = this.#first(first, end, LINE_READ.doubt);
+    return nth < end ? this.doubt(this.#told(nth, LINE_READ.doubt), this.#told(nth, LINE_READ.doubtAt)) : null;
+  }
+
   /** The attempts that have a scramble. */
   all(): Attempt[] {
     const attempts: Attempt[] = [];
     const count = this.#lines.length / TEXT_LINE.bytes;
     for (let first = 0, end = 1; end <= count; end += 1) {
       if (end < count && this.#told(end, LINE_READ.attempt) === this.#told(first, LINE_READ.attempt)) continue;
-      const nth = this.#first(first, end, LINE_READ.doubt);
-      const doubt = nth < end ? this.doubt(this.#told(nth, LINE_READ.doubt), this.#told(nth, LINE_READ.doubtAt)) : null;
-      if (this.scrambles.has(first, end)) attempts.push(this.attempt(first, end, doubt));
+      if (this.scrambles.has(first, end)) attempts.push(this.attempt(first, end));
       first = end;
     }
     return attempts;
   }
 
-  /** @param doubt in which it is */
-  attempt(first: number, end: number, doubt: AttemptDoubt | null): Attempt {
+  /** The attempt that the lines from one to another are. */
+  attempt(first: number, end: number): Attempt {
     const attempt = attemptOf(this.scrambles.of(first, end));
-    attempt.doubt = doubt;
+    attempt.doubt = this.#doubtAmong(first, end);
     const headed = this.#first(first, end, LINE_READ.headed);
     if (headed < end) attempt.name = this.#words(headed, LINE_READ.begin, LINE_READ.headEnd);
     const after: number[] = [];

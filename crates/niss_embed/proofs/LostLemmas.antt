@@ -1,0 +1,73 @@
+-- Where a turn is said in a comment, of which turn something is told first, and how its bytes are read.
+use Rattle.std.proofs.Common.{◌≡◌, ◌∙◌, ◌⊎◌, ℕ, suc, ◌+◌, ◌-◌, ◌<◌, ◌≤◌, ◌==◌, Bool, false, cond, List, [], ◌∷◌, Option, None, Some, refl, map, ap, subst, inl, inr, arith}
+use Rattle.std.specs.Prelude.{find}
+use Rattle.std.specs.List.{range_with_len}
+use Rattle.std.specs.Option.{unwrap_or}
+use Rattle.std.proofs.lemmas.Bool.{cases_lt}
+use Rattle.std.proofs.lemmas.Bool.Decides.{eqb_tells}
+use Rattle.niss_embed.specs.declared.attempts.Doubt.{Doubt}
+use Rattle.niss_moves.specs.Facelets.{face_letter}
+use Rattle.niss_moves.specs.declared.turn.Face.{Face}
+use Rattle.niss_moves.specs.declared.turn.Face.TheVariants.{U, D, R, L, F, B}
+use Rattle.niss_moves.specs.declared.turn.Power.{Power}
+use Rattle.niss_moves.specs.declared.turn.Power.TheVariants.{Quarter, Half, Counter}
+use Rattle.niss_moves.specs.declared.turn.Turn.{Turn}
+use Rattle.niss_text.specs.declared.text_line.TextLine.{TextLine}
+use Rattle.niss_embed.specs.declared.parts.PartAnswer.{PartAnswer}
+use Rattle.niss_embed.specs.declared.step_reading.Reading.TheVariants.{AsWritten}
+use Rattle.niss_embed.specs.Attempts.{IsPartOrLost, doubt_of_part, no_doubt}
+use Rattle.niss_embed.specs.DeadSteps.{Rests}
+use Rattle.niss_embed.specs.LostTurn.{IsLost}
+use Rattle.niss_embed.specs.Parts.{read_byte}
+use Rattle.niss_embed.specs.ShownTurn.{suffix_byte, turn_bytes}
+use Rattle.niss_embed.proofs.DeadLemmas.{rests_blank}
+
+-- the first place from one on is none that fails
+pub find_passed : (test : ℕ → Bool) (at end : ℕ) → at < end → test at ≡ false →
+    find test (range_with_len at (end - at)) ≡ find test (range_with_len (at + 1) (end - (at + 1)))
+find_passed test at end l is =
+    let one : end - at ≡ suc (end - (at + 1)) = omega (arith, l) in
+    ap (λ n. find test (range_with_len at n)) one ∙ ap (λ b. cond b (Some at) (find test (range_with_len (at + 1) (end - (at + 1))))) is
+
+-- one case more of which nothing is told
+pub none_more : (Told : ℕ → Option Doubt → Type 0) (n : ℕ) → ((j : ℕ) → j < n → Told j None) → Told n None → (j : ℕ) → j < n + 1 → Told j None
+none_more Told n none not j less = by_order (cases_lt j n)
+  where
+    by_order : (j < n) ⊎ (n ≤ j) → Told j None
+    by_order (inl before) = none j before
+    by_order (inr last) =
+        let same : n ≡ j = omega (arith, less, last) in
+        subst (λ (k : ℕ). Told k None) same not
+
+-- the doubt that a part solves, or else that a turn was lost
+pub part_told : (part : PartAnswer) (scramble steps places text : List ℕ) (lines : List TextLine) (told : Doubt) → (part.how ≡ 0 → ⊥) → told ≡ doubt_of_part part places →
+    IsPartOrLost (part.how == 0) part scramble steps places text lines told
+part_told part scramble steps places text lines told some is = elim (eqb_tells part.how 0) [
+  | inl w ↦ absurd (some w.1)
+  | inr w ↦ rw w.0 is
+]
+
+pub lost_told : (part : PartAnswer) (scramble steps places text : List ℕ) (lines : List TextLine) (told none : Doubt) (lost : Option Doubt) → part.how ≡ 0 →
+    IsLost scramble steps text lines lost → told ≡ unwrap_or lost none → none ≡ no_doubt → IsPartOrLost (part.how == 0) part scramble steps places text lines told
+lost_told part scramble steps places text lines told none lost nothing is told_is none_is =
+    rw nothing (lost, is, told_is ∙ ap (unwrap_or lost) none_is)
+
+-- The bytes of a turn are read as they are, and no move goes on from them.
+letter_read : (f : Face) → read_byte AsWritten (face_letter f) ≡ face_letter f
+letter_read U = refl
+letter_read D = refl
+letter_read R = refl
+letter_read L = refl
+letter_read F = refl
+letter_read B = refl
+
+suffix_read : (p : Power) → read_byte AsWritten (suffix_byte p) ≡ suffix_byte p
+suffix_read Quarter = refl
+suffix_read Half = refl
+suffix_read Counter = refl
+
+pub turn_read : (t : Turn) → map (read_byte AsWritten) (turn_bytes t) ≡ turn_bytes t
+turn_read t = λ i. 32 ∷ letter_read t.face i ∷ suffix_read t.power i ∷ 32 ∷ []
+
+pub turn_rests : (t : Turn) → Rests (turn_bytes t)
+turn_rests t = rests_blank (32 ∷ face_letter t.face ∷ suffix_byte t.power ∷ [])
