@@ -43,12 +43,12 @@ enum nissy_line_kind {
 enum nissy_doubt {
     NISSY_NO_DOUBT = 0,
     NISSY_ANOTHER_SCRAMBLE = 1,  /* moves stand before or after all of a scramble; or it is called a step, such as DR; or it has no steps, and others
-                                  * of the text begin and end with R' U' F, or it stands again below; of a check: by itself it is solved, or another
-                                  * one stands beside a known scramble's solution */
+                                  * of the text begin and end with R' U' F, or it stands again below; of a check that isn't solved: the scramble
+                                  * is by itself, or another one stands beside a known scramble's solution */
     NISSY_SEVERAL_SOLUTIONS = 2, /* which of several groups is the solution can't be seen, or a list has those of several scrambles; or a step stands
-                                  * below one that follows it, by their numbers or names; of a check also if it is solved: a step as long as a
-                                  * scramble isn't of the solution and doesn't solve, but has its turns, once both are cleaned, but in one place,
-                                  * where each has two at most */
+                                  * below one that follows it, by their numbers or names; of a check also if it is solved: a step whose
+                                  * moves have 40 bytes or more isn't of the solution and doesn't solve, but has its turns, once both are
+                                  * cleaned, but in one place, where each has two at most */
     NISSY_SIDE = 3,              /* another side than the normal one is named, such as the inverse, and the moves have no brackets */
     NISSY_LETTERS = 4,           /* letters stand together as moves don't elsewhere in the line, such as F2L or xD */
     NISSY_SMALL_LETTERS = 5,     /* a scramble has a turn in a small letter, or a step has no others */
@@ -59,14 +59,15 @@ enum nissy_doubt {
                                   * there, as "* = R U"; or it is said that moves are inserted, or that others are
                                   * meant, which counts in each note after the scramble. Insertions and repetitions that are denied, as in "no
                                   * insertion", and in a line without moves sides, as in "nothing on the inverse", are none. Of a check: a
-                                  * comment has a turn with which, beside that step, all steps solve */
+                                  * comment has a turn, written with "'" or "2" or neither, with which, beside that step, all steps solve; at most
+                                  * twelve are looked at, each on a line of its own, of at most NISSY_MOST_STEPS bytes in all */
     /* 9, 10 and 13 are told of checks */
     NISSY_STEP_OR_SCRAMBLE = 11, /* a line after the scramble may be of it, or of another one. Of a check this counts also if it is solved */
     NISSY_SIGNS = 12             /* moves may be written by signs that aren't read so: by commas between some of them, by letters that look like
                                   * theirs, such as wide ones, or in a link; or so many have no apostrophe that these may have been lost, or one of
                                   * so many is a slice, whose letter F or B was taken for; or R' U' F stands at one end of a scramble, or a tab
-                                  * between some moves; of a check: a digit, "!", "?", "|" or "()", the only one beside steps, stands where with a
-                                  * turn all steps solve */
+                                  * between some moves; of a check: a digit, "!", "?" or "|" behind a step, or one of the last three or
+                                  * "()" at its beginning, is the only such sign, and with a turn there all of at most twelve steps solve */
 };
 
 /* A line of such a text. The places are in bytes of the text, from 0, and don't fall from one to the next, nor from line to line. Its moves
@@ -195,12 +196,12 @@ typedef struct nissy_part_answer {
  * has no moves, doesn't solve. It takes no memory. */
 nissy_part_answer nissy_solving_part(const uint8_t *scramble, size_t scramble_length, const uint8_t *steps, size_t steps_length);
 
-/* What makes one doubt a check too. */
+/* What makes one doubt a check too. Another attempt may begin where the third is told, though all is solved: the scramble is by itself; or all before
+ * a step of the solution is, the first but one whose moves have 40 bytes or more, as most scrambles, and after which nothing is said; or two such
+ * steps that aren't of the solution stand one after another, and neither solves. */
 #define NISSY_A_PART 9          /* a part of the steps solves the scramble, as nissy_solving_part tells */
 #define NISSY_WHICH_SCRAMBLE 10 /* it can't be seen which of the known scrambles it is a solution of, or it solves another one */
-#define NISSY_ANOTHER_ATTEMPT                                                                                                                        \
-    13 /* it is solved already before a line as long as a scramble; or two steps as long, which aren't of the solution and                           \
-        * after which nothing is said, stand one after another, and neither solves: another attempt may begin there */
+#define NISSY_ANOTHER_ATTEMPT 13
 
 /* The place of what has none in the text. */
 #define NISSY_NO_PLACE UINT64_MAX
@@ -217,9 +218,10 @@ typedef struct nissy_attempt_check {
     uint8_t doubt;            /* of what is solved NISSY_STEP_OR_SCRAMBLE, or else NISSY_ANOTHER_ATTEMPT, or else NISSY_SEVERAL_SOLUTIONS by its
                                * steps, as told above; if it is none of these, that of its first line that has one, whatever it is; else of what
                                * isn't solved NISSY_A_PART, or NISSY_INSERTION or NISSY_SIGNS if it would be with a turn that the text shows
-                               * beside a step, or none. With known scrambles, before these,
-                               * NISSY_WHICH_SCRAMBLE of what has none or, as told below, NISSY_ANOTHER_SCRAMBLE; and after these
-                               * NISSY_WHICH_SCRAMBLE, if its solution doesn't solve its own one, but another of the first 64 */
+                               * beside a step, or none. With known scrambles also
+                               * NISSY_WHICH_SCRAMBLE of what has none; of what isn't solved, before these, NISSY_ANOTHER_SCRAMBLE, as told
+                               * below; and after these NISSY_WHICH_SCRAMBLE, if its solution doesn't solve its own one, but another of the
+                               * first 64 */
     uint8_t doubted;          /* the doubt counts: nothing is at fault, and there is no solution that solves, or it is NISSY_STEP_OR_SCRAMBLE or one
                                * that the check tells, NISSY_ANOTHER_ATTEMPT or NISSY_SEVERAL_SOLUTIONS. One of its lines that is
                                * NISSY_SEVERAL_SOLUTIONS doesn't count if it is solved */

@@ -1,122 +1,8 @@
 /* Reads texts as solvers write them by the calls for C, one on each line of standard input, and answers each on a line, as hosts.py says. It asks as
  * a caller in C does: by lines, their moves, a check, and the next form. */
-#include "nissy.h"
-#include "nissy_forms.h"
-#include "nissy_text.h"
+#include "lines.h"
 
-#include <stdio.h>
-#include <stdlib.h>
-#include <string.h>
-
-/* Some bytes, and where each is in a text. */
-typedef struct written {
-    uint8_t *bytes;
-    uint64_t *places;
-    uint64_t length;
-    unsigned left_out;
-} written;
-
-typedef struct text {
-    uint8_t *bytes;
-    size_t length;
-} text;
-
-static void *memory(size_t size) {
-    void *const it = malloc(size + 1);
-    if (!it) exit(1);
-    return it;
-}
-
-/* What is written so far. */
-static char *said;
-static size_t said_length, said_room;
-
-static void say(const char *bytes, size_t length) {
-    if (said_length + length > said_room) {
-        said_room = 2 * (said_length + length);
-        said = realloc(said, said_room);
-        if (!said) exit(1);
-    }
-    memcpy(said + said_length, bytes, length);
-    said_length += length;
-}
-
-static void say_text(const char *words) { say(words, strlen(words)); }
-
-static void say_number(uint64_t number) {
-    char digits[24];
-    say(digits, (size_t)snprintf(digits, sizeof digits, "%llu", (unsigned long long)number));
-}
-
-/* The names of the bits that are set. */
-static void say_names(unsigned bits, const char *const *names, const char *parted) {
-    int has = 0;
-    for (unsigned bit = 0; names[bit]; bit++) {
-        if (!(bits >> bit & 1)) continue;
-        if (has++) say_text(parted);
-        say_text(names[bit]);
-    }
-}
-
-static const char *const FORMS[] = {"slices", "lower_case", "brackets", "apostrophe", "half_prime", NULL};
-static const char *const LEFT_OUT[] = {"labels", "numbers of moves", "comments", "line numbers", "commas", "signs that aren't seen", NULL};
-static const char *const DOUBTS[] = {"",        "another scramble", "several solutions", "side", "letters", "small letters",
-                                     "comment", "repetition",       "insertion",         "",     "",        "step or scramble",
-                                     "signs",   "another attempt"};
-
-static int begins_sign(uint8_t byte) { return (byte & 0xc0) != 0x80; }
-
-/* The line and the column of a place, in characters from 1. */
-static void say_place(text of, uint64_t place) {
-    uint64_t line = 1, column = 1;
-    for (uint64_t at = 0; at < place && at < of.length; at++) {
-        const uint8_t byte = of.bytes[at];
-        const int is_inner = byte == '\n' && at > 0 && of.bytes[at - 1] == '\r', ends = byte == '\n' || byte == '\r';
-        line += ends && !is_inner;
-        column = ends ? 1 : column + (uint64_t)begins_sign(byte);
-    }
-    say_text("@"), say_number(line), say_text(":"), say_number(column);
-}
-
-/* The place of a byte of a line, or that after its last sign. */
-static uint64_t place_of(text of, const written *line, uint64_t at) {
-    if (at < line->length) return line->places[at];
-    uint64_t end = line->length ? line->places[line->length - 1] + 1 : 0;
-    while (end > 0 && end < of.length && !begins_sign(of.bytes[end])) end++;
-    return end;
-}
-
-static written plain_of(text of) {
-    const size_t room = 3 * of.length;
-    written it = {memory(room), memory(8 * room), 0, 0};
-    const nissy_plain_answer told = nissy_plain(of.bytes, of.length, it.bytes, room, it.places, room);
-    it.length = told.length, it.left_out = told.left_out;
-    return it;
-}
-
-/* The lines of an attempt. */
-typedef struct lines {
-    const nissy_text_line *first;
-    size_t count;
-} lines;
-
-static written moves_of(text of, lines those, enum nissy_moves_of which) {
-    size_t most = 0;
-    for (size_t at = 0; at < those.count; at++) most += those.first[at].comment - those.first[at].moves + 1;
-    written it = {memory(3 * most), memory(24 * most), 0, 0};
-    const nissy_plain_answer told =
-        nissy_text_moves(of.bytes, of.length, those.first, those.count, (uint8_t)which, it.bytes, 3 * most, it.places, 3 * most, NULL, 0);
-    it.length = told.length, it.left_out = told.left_out;
-    return it;
-}
-
-static void let_go(written it) { free(it.bytes), free(it.places); }
-
-static int has(lines those, enum nissy_line_kind kind, int of_solution) {
-    for (size_t at = 0; at < those.count; at++)
-        if (those.first[at].kind == kind && (!of_solution || those.first[at].solution)) return 1;
-    return 0;
-}
+#include <ctype.h>
 
 /* What a text has, each attempt with what is said of it. */
 typedef struct attempt {
@@ -161,11 +47,85 @@ static void say_check(text of, lines those) {
     let_go(it.scramble), let_go(it.solution);
 }
 
-/* The place of the part of the steps that solves, if there is one. */
+/* Whether a byte may be of a word, or of a face such as ":D". */
+static int is_of_word(uint8_t byte) { return isalnum(byte) || byte >= 128 || (byte && strchr("':;<=", byte)); }
+
+/* Where a turn first stands in the comment of a line as a word by itself. */
+static uint64_t said_in(text of, const nissy_text_line *line, const char *turn) {
+    for (uint64_t at = line ? line->comment : 0; line && at < line->end; at++) {
+        const uint8_t next = at + 1 < of.length ? of.bytes[at + 1] : 0;
+        const uint64_t behind = at + strlen(turn);
+        if (of.bytes[at] != (uint8_t)turn[0] || (uint8_t)turn[1] != (next == '2' || next == '\'' ? next : 0)) continue;
+        if (!is_of_word(of.bytes[at - 1]) && (behind == of.length || !is_of_word(of.bytes[behind]))) return at;
+    }
+    return NISSY_NO_PLACE;
+}
+
+static int is_stray(uint8_t byte) { return byte && strchr("!?|", byte); }
+
+/* Where a sign stands behind the moves of a step, and before them. */
+static uint64_t sign_behind(text of, const nissy_text_line *line) {
+    if (!line || line->comment == line->end) return NISSY_NO_PLACE;
+    return is_stray(of.bytes[line->comment]) || isdigit(of.bytes[line->comment]) ? line->comment : NISSY_NO_PLACE;
+}
+
+static uint64_t sign_before(text of, const nissy_text_line *line) {
+    if (!line) return NISSY_NO_PLACE;
+    if (line->label_begin < line->label_end && is_stray(of.bytes[line->label_begin])) return line->label_begin;
+    return line->moves + 2 <= line->comment && !memcmp(of.bytes + line->moves, "()", 2) ? line->moves : NISSY_NO_PLACE;
+}
+
+static uint64_t first_of(uint64_t one, uint64_t other) { return one != NISSY_NO_PLACE ? one : other; }
+
+/* Whether steps, of which each is a line, solve a scramble with a turn before one of them. */
+static int solves_with(const written *scramble, const written *steps, uint64_t place, const char *turn) {
+    uint8_t *const line = memory(steps->length + 5);
+    memcpy(line, steps->bytes, place);
+    const size_t more = (size_t)sprintf((char *)line + place, " %s ", turn);
+    memcpy(line + place + more, steps->bytes + place, steps->length - place);
+    for (uint64_t at = 0; at < steps->length + more; at++)
+        if (line[at] == '\n') line[at] = ' ';
+    const int solves = nissy_check(scramble->bytes, scramble->length, line, steps->length + more).solved;
+    free(line);
+    return solves;
+}
+
+/* What makes one doubt an attempt that with a turn before a step, or after the last one, would be solved, if the text shows that turn there. */
+static void say_lost(text of, lines those, const written *scramble, const written *steps) {
+    const nissy_text_line *step[14] = {NULL};
+    uint64_t begins[13] = {0}, signs = 0;
+    size_t count = 0, ends = 0;
+    for (size_t at = 0; at < those.count; at++) {
+        if (those.first[at].kind != NISSY_STEP_LINE) continue;
+        if (++count > 12) return;
+        step[count] = those.first + at;
+        signs += (sign_before(of, step[count]) != NISSY_NO_PLACE) + (sign_behind(of, step[count]) != NISSY_NO_PLACE);
+    }
+    for (uint64_t at = 0, is_open = 0; at < steps->length; at++) {
+        is_open = steps->bytes[at] == '(' || (is_open && steps->bytes[at] != ')');
+        if ((steps->bytes[at] == '\n' && !is_open) || at + 1 == steps->length) begins[++ends > 12 ? 12 : ends] = at + 1;
+    }
+    if (ends != count || steps->length > NISSY_MOST_STEPS) return;
+    for (size_t number = 0; number <= count; number++)
+        for (int which = 0; which < 18; which++) {
+            const char turn[3] = {"UDRLFB"[which / 3], "\0002'"[which % 3], 0};
+            const nissy_text_line *const behind = step[number], *const before = step[number + 1];
+            const uint64_t said = first_of(said_in(of, behind, turn), said_in(of, before, turn));
+            const uint64_t sign = signs == 1 ? first_of(sign_behind(of, behind), sign_before(of, before)) : NISSY_NO_PLACE;
+            if (first_of(said, sign) == NISSY_NO_PLACE || !solves_with(scramble, steps, begins[number], turn)) continue;
+            say_text(DOUBTS[said != NISSY_NO_PLACE ? NISSY_INSERTION : NISSY_SIGNS]), say_place(of, first_of(said, sign));
+            return;
+        }
+}
+
+/* The place of the part of the steps that solves, if there is one, or of a turn with which all do. */
 static void say_part(text of, lines those, const written *scramble) {
     const written steps = moves_of(of, those, NISSY_OF_EACH_STEP);
     const nissy_part_answer part = nissy_solving_part(scramble->bytes, scramble->length, steps.bytes, steps.length);
-    if (part.how) say_text("a part"), say_place(of, steps.places[part.begin]);
+    if (part.how)
+        say_text("a part"), say_place(of, steps.places[part.begin]);
+    else
+        say_lost(of, those, scramble, &steps);
     let_go(steps);
 }
 
