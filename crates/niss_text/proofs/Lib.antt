@@ -9,12 +9,15 @@ pub mod TellLemmas
 pub mod VanishLemmas
 pub mod KeptLemmas
 pub mod WordLemmas
+pub mod LayerLemmas
 pub mod ToldLemmas
 pub mod DoubtLemmas
 pub mod MovesLemmas
 pub mod KnownLemmas
 pub mod HeadLemmas
 pub mod NameLemmas
+pub mod NamedLemmas
+pub mod DeniedLemmas
 pub mod CommentLemmas
 pub mod SpacingLemmas
 pub mod TurnLemmas

@@ -27,13 +27,13 @@ letters_more text rest far after size is left some next letter one before k lt =
         subst (λ n. is_letter (get_or text n 0) ≡ true) same (sym (ap is_letter here) ∙ (one letter).1)
 
 -- the letter that a small one is of
-plain_of_small : (b : ℕ) → is_within 97 122 (small b) ≡ true → is_plain_letter b ≡ true
+pub plain_of_small : (b : ℕ) → is_within 97 122 (small b) ≡ true → is_plain_letter b ≡ true
 plain_of_small b is = grind (arith, nat_tests)
 
-plain_letter : (b : ℕ) → is_plain_letter b ≡ true → is_letter b ≡ true
+pub plain_letter : (b : ℕ) → is_plain_letter b ≡ true → is_letter b ≡ true
 plain_letter b is = grind (arith, nat_tests)
 
-each_at : (bytes : List ℕ) (k : ℕ) → k < length bytes → list_all (is_within 97 122) bytes ≡ true → is_within 97 122 (get_or bytes k 0) ≡ true
+pub each_at : (bytes : List ℕ) (k : ℕ) → k < length bytes → list_all (is_within 97 122) bytes ≡ true → is_within 97 122 (get_or bytes k 0) ≡ true
 each_at [] k lt all = absurd (omega (arith, lt))
 each_at (b ∷ bytes) zero lt all = (and_parts (is_within 97 122 b) (list_all (is_within 97 122) bytes) all).0
 each_at (b ∷ bytes) (suc k) lt all = each_at bytes k (omega (arith, lt)) (and_parts (is_within 97 122 b) (list_all (is_within 97 122) bytes) all).1
@@ -63,15 +63,18 @@ spelled_at words bytes k all is lt =
 
 -- a word stands where letters begin and end
 pub said_here : (words : List (List ℕ)) (text rest : List ℕ) (i n : ℕ) → rest ≡ drop i text → i ≤ length text → n ≤ length rest → Contains words (map small (take n rest)) →
-    (0 < i → is_plain_letter (get_or text (i - 1) 0) ≡ false) → is_plain_letter (get_or rest n 0) ≡ false → HasWord is_plain_letter words text
-said_here words text rest i n left low fits is before after = record {
-  at = i;
-  count = n;
-  fits = omega (arith, low, fits, ap length left, length-drop i text);
-  is = subst (λ v. Contains words (map small v)) (ap (λ v. take n v) left ∙ ap (λ m. take m (drop i text)) long) is;
-  before = before;
-  after = sym (ap is_plain_letter (ap (λ v. get_or v n 0) left ∙ get_or-drop i text n 0)) ∙ after;
-}
+    (0 < i → is_plain_letter (get_or text (i - 1) 0) ≡ false) → is_plain_letter (get_or rest n 0) ≡ false → (has : HasWord is_plain_letter words text) × (has.at ≡ i)
+said_here words text rest i n left low fits is before after = (
+  record {
+    at = i;
+    count = n;
+    fits = omega (arith, low, fits, ap length left, length-drop i text);
+    is = subst (λ v. Contains words (map small v)) (ap (λ v. take n v) left ∙ ap (λ m. take m (drop i text)) long) is;
+    before = before;
+    after = sym (ap is_plain_letter (ap (λ v. get_or v n 0) left ∙ get_or-drop i text n 0)) ∙ after;
+  },
+  refl,
+)
   where
     long : n ≡ i + n - i
     long = omega arith
@@ -282,16 +285,19 @@ told_true false one = absurd (omega (arith, one))
 
 -- a word of a part of a line stands in a longer part, if no letter follows the first
 pub said_longer : (words : List (List ℕ)) (line : List ℕ) (begin end longer : ℕ) → begin ≤ end → end ≤ longer → longer ≤ length line →
-    (end < longer → is_plain_letter (get_or line end 0) ≡ false) → HasWord is_plain_letter words (slice_range line begin end) →
-    HasWord is_plain_letter words (slice_range line begin longer)
-said_longer words line begin end longer order more within apart has = record {
-  at = has.at;
-  count = has.count;
-  fits = omega (arith, has.fits, short, long, more);
-  is = subst (λ v. Contains words (map small v)) same has.is;
-  before = λ some. ap is_plain_letter (sym (byte (has.at - 1) (omega (arith, has.fits, short, some)))) ∙ has.before some;
-  after = by_end (cases_lt (has.at + has.count) (end - begin));
-}
+    (end < longer → is_plain_letter (get_or line end 0) ≡ false) → (has : HasWord is_plain_letter words (slice_range line begin end)) →
+    (longest : HasWord is_plain_letter words (slice_range line begin longer)) × (longest.at ≡ has.at)
+said_longer words line begin end longer order more within apart has = (
+  record {
+    at = has.at;
+    count = has.count;
+    fits = omega (arith, has.fits, short, long, more);
+    is = subst (λ v. Contains words (map small v)) same has.is;
+    before = λ some. ap is_plain_letter (sym (byte (has.at - 1) (omega (arith, has.fits, short, some)))) ∙ has.before some;
+    after = by_end (cases_lt (has.at + has.count) (end - begin));
+  },
+  refl,
+)
   where
     short : length (slice_range line begin end) ≡ end - begin
     short = length-take-le (end - begin) (drop begin line) (omega (arith, length-drop begin line, more, within))

@@ -3,9 +3,8 @@ use Rattle.std.proofs.Common.{◌≡◌, ℕ, zero, suc, ◌+◌, ◌<◌, ◌�
 use Rattle.std.proofs.lemmas.Bool.{false≢true}
 use Rattle.niss_text.specs.Signs.{HasNoMoves, is_of_moves}
 use Rattle.niss_text.specs.Doubts.{IsDoubted}
-use Rattle.niss_text.specs.Kept.{BeginNoMoves, HasOnlyWords, IsTitleEnd, LosesNone, AreInNotation, ArePlainBefore, begins_with_move, words_of_head}
-use Rattle.niss_text.specs.Said.{HasNoSlashes, HasWord, IsLabelled, IsSided, is_a_head, label_in, words_of_solution}
-use Rattle.niss_text.specs.Doubts.{is_letter as is_plain_letter}
+use Rattle.niss_text.specs.Kept.{BeginNoMoves, HasOnlyWords, IsTitleEnd, LosesNone, AreInNotation, ArePlainBefore, begins_with_move, begins_with_turn, words_of_head}
+use Rattle.niss_text.specs.Said.{HasNoSlashes, IsLabelled, IsSided, SaysSolution, is_a_head, label_in}
 use Rattle.niss_text.specs.Lines.{IsTold}
 use Rattle.niss_text.specs.Pieces.{EndsWithColon}
 use Rattle.niss_text.specs.declared.line.Line.{Line}
@@ -30,11 +29,11 @@ pub record StandsAt (now : ℕ) (seen : Line) (line : TextLine) : Type 0 where
 pub record IsSeen (bytes : List ℕ) (seen : Line) : Type 0 where
   pub labelled : IsLabelled bytes (drop seen.label_begin bytes) seen.label_begin seen.moves
   pub headed : is_a_head seen.head_kind ≡ nat_lt 0 seen.head
-  pub said : seen.is_solution ≡ true → HasWord is_plain_letter words_of_solution (slice_range bytes seen.label_begin seen.label_end)
+  pub said : seen.is_solution ≡ true → SaysSolution (slice_range bytes seen.label_begin seen.label_end)
   pub kept : LosesNone bytes 0 seen.head seen.label_begin seen.label_end seen.moves
   pub blank : seen.is_blank ≡ true → HasNoMoves (drop seen.head bytes)
   pub alone : seen.is_head_alone ≡ true → HasNoMoves (drop seen.head bytes)
-  pub comment : begins_with_move (drop seen.comment bytes) ≡ false
+  pub comment : begins_with_turn (drop seen.comment bytes) ≡ false
   pub uncommented : HasNoSlashes (slice_range bytes seen.moves seen.comment)
   pub plain : AreInNotation bytes → (seen.is_moves ≡ true) × ((seen.moves ≡ 0) × (seen.comment ≡ seen.length))
   pub commented : (count : ℕ) → ArePlainBefore bytes count → (seen.is_moves ≡ true) × ((seen.moves ≡ 0) × (seen.comment ≡ count))
@@ -88,9 +87,9 @@ is_told text now seen line fits at is has says known doubted sided = record {
   blank = λ none. subst (λ n. HasNoMoves (slice_range text n line.end)) (sym at.head)
       (subst (λ n. HasNoMoves (slice_range text (now + seen.head) n)) (sym at.end)
       (subst (λ v. HasNoMoves v) (rest_of_line text now seen.length seen.head head fits) (empty (has.blank none))));
-  comment = subst (λ n. begins_with_move (slice_range text n line.end) ≡ false) (sym at.comment)
-      (subst (λ n. begins_with_move (slice_range text (now + seen.comment) n) ≡ false) (sym at.end)
-      (subst (λ v. begins_with_move v ≡ false) (rest_of_line text now seen.length seen.comment (omega (arith, seen.comment_in, seen.slashes_in)) fits) is.comment));
+  comment = subst (λ n. begins_with_turn (slice_range text n line.end) ≡ false) (sym at.comment)
+      (subst (λ n. begins_with_turn (slice_range text (now + seen.comment) n) ≡ false) (sym at.end)
+      (subst (λ v. begins_with_turn v ≡ false) (rest_of_line text now seen.length seen.comment (omega (arith, seen.comment_in, seen.slashes_in)) fits) is.comment));
   plain = λ plain. by_plain (whole plain);
   commented = λ count before. by_comment count (subst (λ v. ArePlainBefore v count) (sym same) before);
 }
@@ -136,11 +135,11 @@ is_told text now seen line fits at is has says known doubted sided = record {
     headed : line.is_headed ≡ (if nat_lt line.begin line.head_end then 1 else 0)
     headed = says.headed ∙ ap as_number (is.headed ∙ shifted)
 
-    said : line.says_solution ≡ 1 → HasWord is_plain_letter words_of_solution (label_in text line)
+    said : line.says_solution ≡ 1 → SaysSolution (label_in text line)
     said one =
-        subst (λ n. HasWord is_plain_letter words_of_solution (slice_range text n line.label_end)) (sym at.label_begin)
-        (subst (λ n. HasWord is_plain_letter words_of_solution (slice_range text (now + seen.label_begin) n)) (sym at.label_end)
-        (subst (λ v. HasWord is_plain_letter words_of_solution v)
+        subst (λ n. SaysSolution (slice_range text n line.label_end)) (sym at.label_begin)
+        (subst (λ n. SaysSolution (slice_range text (now + seen.label_begin) n)) (sym at.label_end)
+        (subst (λ v. SaysSolution v)
         (part_of_line text now seen.length seen.label_begin seen.label_end seen.label_in (omega (arith, seen.words_in, seen.moves_in, seen.comment_in, seen.slashes_in)))
         (is.said (told_true seen.is_solution (sym says.says ∙ one)))))
 

@@ -1,8 +1,8 @@
 -- Where a move by itself begins a text.
-use Rattle.std.proofs.Common.{◌≡◌, ℕ, zero, suc, ◌+◌, ◌-◌, ◌<◌, ◌≤◌, ◌⊎◌, inl, inr, Bool, true, false, ◌||◌, ◌&&◌, ◌==◌, List, [], ◌∷◌, length, take, drop, get_or, slice_range, refl, sym, subst, ap, ◌∙◌, length-drop, arith}
+use Rattle.std.proofs.Common.{◌≡◌, ℕ, zero, suc, ◌<◌, ◌≤◌, ◌⊎◌, inl, inr, Bool, true, false, ◌||◌, ◌&&◌, ◌==◌, List, [], ◌∷◌, length, take, drop, get_or, refl, sym, subst, ap, ◌∙◌, arith}
 use Rattle.std.proofs.lemmas.Bool.{cases_lt, and_parts, or_cases, or_left, or_right, false≢true, false_from_ne_true}
 use Rattle.std.proofs.lemmas.Bool.Decides.{nat_tests}
-use Rattle.std.proofs.lemmas.List.{drop_all, drop_more, drop-drop, drop-take, get_or-drop, get_or-take, length-take-le}
+use Rattle.std.proofs.lemmas.List.{drop_all, drop_more, get_or-take, length-take-le}
 use Rattle.niss_text.specs.Doubts.{is_capital}
 unfoldable use Rattle.niss_text.specs.Kept.{is_over, begins_with_move}
 
@@ -85,7 +85,7 @@ cut_before text n some fits slash none = false_from_ne_true (begins_with_move te
     )
     after (inr le) (inr signed) = absurd (sign_none le signed.0)
 
-slash_begins : (text : List ℕ) → (0 < length text → get_or text 0 0 ≡ 47) → begins_with_move text ≡ false
+pub slash_begins : (text : List ℕ) → (0 < length text → get_or text 0 0 ≡ 47) → begins_with_move text ≡ false
 slash_begins text slash = false_from_ne_true (begins_with_move text) (λ is. by_length (cases_lt 0 (length text)) (move_parts text is).0)
   where
     capital_none : (b : ℕ) → (b ≡ 47) ⊎ (b ≡ 0) → is_capital b ≡ true → ⊥
@@ -95,29 +95,3 @@ slash_begins text slash = false_from_ne_true (begins_with_move text) (λ is. by_
     by_length : (0 < length text) ⊎ (length text ≤ 0) → is_capital (get_or text 0 0) ≡ true → ⊥
     by_length (inl lt) capital = capital_none (get_or text 0 0) (inl (slash lt)) capital
     by_length (inr le) capital = capital_none (get_or text 0 0) (inr (beyond text 0 le)) capital
-
--- no move by itself stands where what is said after the moves begins: at the slashes, or before them
-pub comment_begins : (line : List ℕ) (slashes body e : ℕ) → body ≤ slashes → slashes ≤ length line → e ≤ slashes - body → (slashes < length line → get_or line slashes 0 ≡ 47) →
-    (e < length (slice_range line body slashes) → begins_with_move (drop e (slice_range line body slashes)) ≡ false) → begins_with_move (drop (body + e) line) ≡ false
-comment_begins line slashes body e order within fits slash none = by_end (cases_lt e (slashes - body))
-  where
-    by_end : (e < slashes - body) ⊎ (slashes - body ≤ e) → begins_with_move (drop (body + e) line) ≡ false
-    by_end (inl lt) =
-        let n : ℕ = slashes - body - e in
-        let rest : List ℕ = drop (body + e) line in
-        let long : length (slice_range line body slashes) ≡ slashes - body =
-        length-take-le (slashes - body) (drop body line) (omega (arith, length-drop body line, order, within)) in
-        let split : e + n ≡ slashes - body = omega (arith, lt) in
-        let front : drop e (slice_range line body slashes) ≡ take n rest =
-        ap (λ k. drop e (take k (drop body line))) (sym split) ∙ drop-take e n (drop body line) ∙ ap (λ v. take n v) (drop-drop e body line) in
-        let there : body + e + n ≡ slashes = omega (arith, order, lt) in
-        cut_before rest n (omega (arith, lt)) (omega (arith, length-drop (body + e) line, within, there))
-        (λ more. get_or-drop (body + e) line n 0 ∙ ap (λ k. get_or line k 0) there ∙ slash (omega (arith, more, length-drop (body + e) line, there)))
-        (subst (λ v. begins_with_move v ≡ false) front (none (omega (arith, long, lt))))
-    by_end (inr le) =
-        let there : body + e + 0 ≡ slashes = omega (arith, order, fits, le) in
-        slash_begins (drop (body + e) line) (λ some.
-        get_or-drop (body + e) line 0 0 ∙ ap (λ k. get_or line k 0) there ∙ slash (omega (arith, some, length-drop (body + e) line, there)))
-
-pub none_at_end : (line : List ℕ) (at : ℕ) → length line ≤ at → begins_with_move (drop at line) ≡ false
-none_at_end line at le = slash_begins (drop at line) (λ some. absurd (omega (arith, some, length-drop at line, le)))

@@ -1,8 +1,8 @@
 -- What stands in a line before its moves, in its head and between its parts: none of its moves.
-use Rattle.std.specs.Prelude.{◌≡◌, ℕ, ◌+◌, ◌-◌, ◌<◌, ◌⊎◌, ◌==◌, Bool, true, false, ◌||◌, ◌&&◌, List, [], ◌∷◌, ◌++◌, length, take, drop, map, slice_index, slice_range, if◌then◌else◌, codes}
+use Rattle.std.specs.Prelude.{◌≡◌, ℕ, ◌+◌, ◌-◌, ◌<◌, ◌⊎◌, ◌==◌, Bool, true, false, not, ◌||◌, ◌&&◌, List, [], ◌∷◌, ◌++◌, length, take, drop, map, slice_index, slice_range, if◌then◌else◌, codes}
 use Rattle.std.specs.List.{All, Contains, concat, list_any}
-use Rattle.niss_text.specs.Signs.{HasNoMoves, AreSigns, ends_title, is_within, begins_count}
-use Rattle.niss_text.specs.Doubts.{is_capital}
+use Rattle.niss_text.specs.Signs.{HasNoMoves, AreSigns, ends_title, is_digit, is_within, begins_count}
+use Rattle.niss_text.specs.Doubts.{is_capital, is_letter}
 
 -- a letter of ASCII, and it as a small one
 unfoldable pub spells : ℕ → Bool
@@ -127,11 +127,19 @@ unfoldable pub is_over : List ℕ → Bool
 is_over [] = true
 is_over (b ∷ bytes) = b == 32
 
+-- a text begins with a turn of as many layers as a digit says, such as 3Rw: no letter stands after its w
+unfoldable pub begins_with_layers : List ℕ → Bool
+begins_with_layers text = is_digit (slice_index text 0) && (is_capital (slice_index text 1) && ((slice_index text 2 == 119) && not (is_letter (slice_index text 3))))
+
 -- a text begins with a move by itself: a capital letter of an outer turn, after which it may have a 2 or an apostrophe
 unfoldable pub begins_with_move : List ℕ → Bool
 begins_with_move text = is_capital (slice_index text 0) &&
     (is_over (drop 1 text) || (((slice_index text 1 == 50) || (slice_index text 1 == 39)) && is_over (drop 2 text)))
 
--- at a place that is one, no move by itself stands
+-- it begins with one of both
+unfoldable pub begins_with_turn : List ℕ → Bool
+begins_with_turn text = begins_with_move text || begins_with_layers text
+
+-- at a place that is one, none of them stands
 abbrev pub IsNoMove : List ℕ → Bool → ℕ → Type 0
-IsNoMove text is at = is ≡ true → begins_with_move (drop at text) ≡ false
+IsNoMove text is at = is ≡ true → begins_with_turn (drop at text) ≡ false

@@ -2,9 +2,8 @@
 use Rattle.std.specs.Prelude.{◌≡◌, ℕ, zero, suc, ◌==◌, ◌+◌, ◌-◌, ◌<◌, ◌≤◌, ◌⊎◌, ◌||◌, ◌&&◌, Bool, true, false, if◌then◌else◌, List, [], ◌∷◌, length, get_or, slice_index, slice_range, nat_lt}
 use Rattle.niss_text.specs.Signs.{ends_line, HasNoMoves}
 use Rattle.niss_text.specs.Doubts.{IsDoubted}
-use Rattle.niss_text.specs.Kept.{HasOnlyWords, LosesNone, AreInNotation, ArePlain, ArePlainBefore, begins_with_move, words_of_head}
-use Rattle.niss_text.specs.Said.{HasNoSlashes, HasWord, IsLabelled, IsSided, label_in, words_of_solution}
-use Rattle.niss_text.specs.Doubts.{is_letter as is_plain_letter}
+use Rattle.niss_text.specs.Kept.{HasOnlyWords, LosesNone, AreInNotation, ArePlain, ArePlainBefore, begins_with_turn, words_of_head}
+use Rattle.niss_text.specs.Said.{HasNoSlashes, IsLabelled, IsSided, SaysSolution, label_in}
 use Rattle.niss_text.specs.declared.text_line.TextLine.{TextLine}
 
 -- A line that begins there. Its parts stand in this order, and none overlaps another. Only a step is on the inverse.
@@ -32,7 +31,7 @@ pub record IsPlacedAs (line other : TextLine) : Type 0 where
   pub moves : (other.moves ≡ line.moves) × (other.comment ≡ line.comment)
 
 -- What is told of a line of a text: what makes one doubt it, whether it is on the inverse, and whether it has a head.
--- Its label has a word for a solution if it is told to say that one follows. It loses no move before its moves, which
+-- Its label has a word for a solution, and none for a step before that, if it is told to say that one follows. It loses no move before its moves, which
 -- are no label where they begin it; nothing that moves are made of stands in a blank one after its head; no comment
 -- begins among the moves; what is said after them doesn't begin with a move by itself; and a line that is moves in the
 -- WCA's notation is of a scramble or a step, all of it, or all up to the slashes if a comment follows moves that begin
@@ -41,11 +40,11 @@ pub record IsTold (text : List ℕ) (line : TextLine) : Type 0 where
   pub doubted : IsDoubted text line
   pub sided : IsSided text line
   pub headed : line.is_headed ≡ (if nat_lt line.begin line.head_end then 1 else 0)
-  pub says : line.says_solution ≡ 1 → HasWord is_plain_letter words_of_solution (label_in text line)
+  pub says : line.says_solution ≡ 1 → SaysSolution (label_in text line)
   pub kept : LosesNone text line.begin line.head_end line.label_begin line.label_end line.moves
   pub labelled : IsLabelled text (slice_range text line.label_begin line.end) line.label_begin line.moves
   pub blank : line.kind ≡ 0 → HasNoMoves (slice_range text line.head_end line.end)
-  pub comment : begins_with_move (slice_range text line.comment line.end) ≡ false
+  pub comment : begins_with_turn (slice_range text line.comment line.end) ≡ false
   pub uncommented : HasNoSlashes (slice_range text line.moves line.comment)
   pub plain : AreInNotation (slice_range text line.begin line.end) →
       ((line.kind ≡ 2) ⊎ (line.kind ≡ 3)) × ((line.moves ≡ line.begin) × (line.comment ≡ line.end))

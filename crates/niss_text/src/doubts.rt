@@ -1,9 +1,9 @@
 //! What makes one doubt that a line is read as it was meant.
-ghost use Rattle.std.specs.Prelude.{◌≡◌, ◌≤◌, ◌<◌, ◌+◌, ◌-◌, ◌⊎◌, true, length, IfSome};
+ghost use Rattle.std.specs.Prelude.{◌≡◌, ◌≤◌, ◌<◌, ◌+◌, ◌-◌, ◌⊎◌, ℕ, true, length, slice_range, IfSome};
 ghost use Rattle.niss_text.specs.Doubts.{IsDoubted, IsAsWritten, IsUncommentedStep, HasNone, number_of, sees};
 ghost use Rattle.niss_text.specs.Doubts.{is_letter as is_plain_letter};
 ghost use Rattle.niss_text.specs.Signs.{is_letter};
-ghost use Rattle.niss_text.specs.Said.{HasWord, HasNoSlashes, IsOnInverse, IsPlainlyOnInverse, IsSided};
+ghost use Rattle.niss_text.specs.Said.{DeniesNothing, HasWord, HasNoSlashes, IsDenied, IsOnInverse, IsPlainlyOnInverse, IsSided, Names};
 ghost use Rattle.niss_text.specs.Said.{are_spelled, words_of, label_in, moves_in, comment_in};
 ghost use Rattle.niss_text.specs.Lines.{IsLine, IsPlacedAs};
 ghost use Rattle.niss_text.specs.declared.doubts.Doubt.TheVariants.{Nothing, Letters, SmallLetters};
@@ -17,7 +17,7 @@ use crate::marks::{
     begin_with_letter_of_words, column_at, defined_mark, has_moves_aside, has_slice, is_mark,
     is_no_count, letter_of_words, times_at_end, times_said,
 };
-use crate::said::{Said, doubt_said, first_said};
+use crate::said::{Said, doubt_said, first_said, names};
 use crate::sights::{Sight, first_seen};
 use crate::text_line::{LineKind, TextLine, flag};
 use crate::words::{Wanted, says};
@@ -269,6 +269,8 @@ fn doubt_of(text: &[u8], told: &TextLine, line: &Line, sheet: Sheet) -> (Doubt, 
     requires same { told.now.begin + line.now.length ≡ told.now.end }
     requires comment { told.now.begin + line.now.comment ≡ told.now.comment }
     ensures place { (told.now.begin ≤ result.1) × (result.1 ≤ told.now.end) }
+    ensures free { told.now.kind ≡ 4 → (number_of result.0 ≡ 3) ⊎ (number_of result.0 ≡ 7) → (between : ℕ) →
+        IsDenied between (slice_range text.now told.now.head_end told.now.end) (result.1 - told.now.head_end) → ⊥ }
     ensures nowhere { result.0 ≡ Nothing → result.1 ≡ told.now.end }
     ensures before { told.now.kind < 2 → number_of result.0 ≡ 0 }
     ensures another { number_of result.0 ≡ 1 → told.now.kind ≡ 2 }
@@ -313,17 +315,19 @@ fn doubt_of(text: &[u8], told: &TextLine, line: &Line, sheet: Sheet) -> (Doubt, 
     (Doubt::Nothing, told.end)
 }
 
-/// Whether a line says so, in its label or after its moves.
+/// Whether a line says so, in its label or after its moves, and doesn't deny it.
 fn is_said(text: &[u8], told: &TextLine, wanted: Wanted) -> bool
     requires line { IsLine told.now.begin told.now }
     requires fits { told.now.end ≤ length text.now }
-    ensures said { result ≡ true → HasWord is_plain_letter (words_of wanted) (label_in text.now told.now)
-        ⊎ HasWord is_plain_letter (words_of wanted) (comment_in text.now told.now) }
-    ensures all { are_spelled (words_of wanted) ≡ true → HasWord is_letter (words_of wanted) (label_in text.now told.now)
-        ⊎ HasWord is_letter (words_of wanted) (comment_in text.now told.now) → result ≡ true }
+    ensures said { result ≡ true → Names is_plain_letter (words_of wanted) (label_in text.now told.now)
+        ⊎ Names is_plain_letter (words_of wanted) (comment_in text.now told.now) }
+    ensures label { are_spelled (words_of wanted) ≡ true → DeniesNothing (label_in text.now told.now) →
+        HasWord is_letter (words_of wanted) (label_in text.now told.now) → result ≡ true }
+    ensures comment { are_spelled (words_of wanted) ≡ true → DeniesNothing (comment_in text.now told.now) →
+        HasWord is_letter (words_of wanted) (comment_in text.now told.now) → result ≡ true }
 {
-    says(&text[told.label_begin..told.label_end], wanted)
-        || says(&text[told.comment..told.end], wanted)
+    names(&text[told.label_begin..told.label_end], wanted)
+        || names(&text[told.comment..told.end], wanted)
 }
 
 /// Whether what is said of a step has it on the inverse, and its moves have no brackets.

@@ -3,7 +3,7 @@ ghost use Rattle.std.specs.Prelude.{◌≡◌, ◌≤◌, ◌<◌, true, false};
 ghost use Rattle.niss_text.specs.Groups.{IsFresh, IsEndedBy, Goes};
 
 use crate::body::{are_long, is_whole_move_before};
-use crate::line::{Line, Numbers, next_line};
+use crate::line::{Line, Numbers, cut_line};
 use crate::sign::trimmed;
 use crate::step_order::{Order, is_next};
 use crate::words::{Wanted, says};
@@ -88,7 +88,7 @@ fn begin_with(moves: &[u8], others: &[u8]) -> bool {
 fn first_moves(text: &[u8], numbers: Numbers) -> &[u8] {
     let mut rest = text;
     while !rest.is_empty() {
-        let (line, length) = next_line(rest, numbers);
+        let (line, length) = cut_line(rest, numbers);
         if line.is_moves {
             return &rest[line.moves..line.comment];
         }
@@ -107,7 +107,7 @@ fn last_moves(text: &[u8], numbers: Numbers) -> &[u8] {
     let mut last: &[u8] = &[];
     let mut rest = text;
     while !rest.is_empty() {
-        let (line, length) = next_line(rest, numbers);
+        let (line, length) = cut_line(rest, numbers);
         if line.is_moves {
             last = &rest[line.moves..line.comment];
         }
@@ -196,7 +196,7 @@ impl Solutions {
         let mut rest = text;
         let mut seen = Solutions::none();
         while !rest.is_empty() {
-            let (line, length) = next_line(rest, numbers);
+            let (line, length) = cut_line(rest, numbers);
             let at = text.len() - rest.len();
             seen = seen.after(&line, at);
             if line.is_moves {

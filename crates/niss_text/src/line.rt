@@ -1,9 +1,8 @@
 //! A line of a text: where its parts are, and what is seen of it.
 ghost use Rattle.std.specs.Prelude.{◌≡◌, ◌≤◌, ◌<◌, ◌+◌, ◌⊎◌, nat_lt, ℕ, true, false, length, take, drop, slice_index, slice_range};
 ghost use Rattle.niss_text.specs.Signs.{ends_line, HasNoMoves};
-ghost use Rattle.niss_text.specs.Kept.{BeginNoMoves, IsTitleEnd, LosesNone, AreInNotation, ArePlainBefore, begins_with_move};
-ghost use Rattle.niss_text.specs.Doubts.{is_letter as is_plain_letter};
-ghost use Rattle.niss_text.specs.Said.{HasNoSlashes, HasWord, IsLabelled, is_a_head, words_of_solution};
+ghost use Rattle.niss_text.specs.Kept.{BeginNoMoves, IsTitleEnd, LosesNone, AreInNotation, ArePlainBefore, begins_with_turn};
+ghost use Rattle.niss_text.specs.Said.{HasNoSlashes, IsLabelled, SaysSolution, is_a_head};
 ghost use Rattle.niss_text.specs.Lines.{IsUnbroken, IsEnd, end_of, end_size};
 
 use crate::body::{are_long, has_frame, is_whole_scramble};
@@ -12,7 +11,7 @@ use crate::heads::head_of;
 use crate::line_parts::parts_of;
 use crate::sign::{Class, behind, from_place, is_digit_byte};
 use crate::word::are_plain_moves;
-use crate::words::{Wanted, says};
+use crate::words::{Wanted, says, says_solution};
 
 /// Which numbers may stand before a scramble.
 #[derive(Clone, Copy, PartialEq, Eq)]
@@ -176,11 +175,11 @@ fn line_behind(line: &[u8], head_kind: Head, head: usize) -> Line
     ensures margin { BeginNoMoves (slice_range line.now head result.label_begin) }
     ensures title { IsTitleEnd (slice_range line.now result.label_end result.moves) }
     ensures filled { result.is_blank ≡ false }
-    ensures comment { begins_with_move (drop result.comment line.now) ≡ false }
+    ensures comment { begins_with_turn (drop result.comment line.now) ≡ false }
     ensures uncommented { HasNoSlashes (slice_range line.now result.moves result.comment) }
     ensures labelled { IsLabelled line.now (drop result.label_begin line.now) result.label_begin result.moves }
     ensures said { result.is_solution ≡ true →
-        HasWord is_plain_letter words_of_solution (slice_range line.now result.label_begin result.label_end) }
+        SaysSolution (slice_range line.now result.label_begin result.label_end) }
     ensures alone { result.is_head_alone ≡ true → HasNoMoves (drop head line.now) }
     ensures commented { (count : ℕ) → head ≡ 0 → ArePlainBefore line.now count →
         (result.is_moves ≡ true) × ((result.moves ≡ 0) × (result.comment ≡ count)) }
@@ -189,7 +188,7 @@ fn line_behind(line: &[u8], head_kind: Head, head: usize) -> Line
     let label = &line[parts.label_begin..parts.label_end];
     let title = &line[parts.label_begin..parts.title_end];
     let body = &line[parts.moves..parts.comment];
-    let is_solution = says(title, Wanted::Solution);
+    let is_solution = says_solution(title);
     let has_words = head_kind == Head::Word || parts.comment < line.len();
     Line {
         head_kind,
@@ -222,11 +221,11 @@ fn headed_line(line: &[u8], kind: Head, head: usize) -> Line
     ensures margin { BeginNoMoves (slice_range line.now head result.label_begin) }
     ensures title { IsTitleEnd (slice_range line.now result.label_end result.moves) }
     ensures blank { result.is_blank ≡ true → HasNoMoves (drop head line.now) }
-    ensures comment { begins_with_move (drop result.comment line.now) ≡ false }
+    ensures comment { begins_with_turn (drop result.comment line.now) ≡ false }
     ensures uncommented { HasNoSlashes (slice_range line.now result.moves result.comment) }
     ensures labelled { IsLabelled line.now (drop result.label_begin line.now) result.label_begin result.moves }
     ensures said { result.is_solution ≡ true →
-        HasWord is_plain_letter words_of_solution (slice_range line.now result.label_begin result.label_end) }
+        SaysSolution (slice_range line.now result.label_begin result.label_end) }
     ensures alone { result.is_head_alone ≡ true → HasNoMoves (drop head line.now) }
 {
     let rest = from_place(line, head);
@@ -256,11 +255,11 @@ pub fn line_of(line: &[u8], numbers: Numbers) -> Line
     ensures kept { LosesNone line.now 0 result.head result.label_begin result.label_end result.moves }
     ensures blank { result.is_blank ≡ true → HasNoMoves (drop result.head line.now) }
     ensures alone { result.is_head_alone ≡ true → HasNoMoves (drop result.head line.now) }
-    ensures comment { begins_with_move (drop result.comment line.now) ≡ false }
+    ensures comment { begins_with_turn (drop result.comment line.now) ≡ false }
     ensures uncommented { HasNoSlashes (slice_range line.now result.moves result.comment) }
     ensures labelled { IsLabelled line.now (drop result.label_begin line.now) result.label_begin result.moves }
     ensures said { result.is_solution ≡ true →
-        HasWord is_plain_letter words_of_solution (slice_range line.now result.label_begin result.label_end) }
+        SaysSolution (slice_range line.now result.label_begin result.label_end) }
     ensures plain { AreInNotation line.now → (result.is_moves ≡ true) × ((result.moves ≡ 0) × (result.comment ≡ result.length)) }
     ensures commented { (count : ℕ) → ArePlainBefore line.now count →
         (result.is_moves ≡ true) × ((result.moves ≡ 0) × (result.comment ≡ count)) }
@@ -300,6 +299,7 @@ fn line_end_length(text: &[u8]) -> usize
 /// The first line of a text, and how many bytes it has with what ends it.
 pub fn cut_line(text: &[u8], numbers: Numbers) -> (Line, usize)
     requires { 0 < length text.now }
+    ensures line { result.0.length ≤ length text.now }
     ensures some { 0 < result.1 }
     ensures fits { result.1 ≤ length text.now }
     ensures whole { IsUnbroken text.now 0 result.0.length }
@@ -309,12 +309,12 @@ pub fn cut_line(text: &[u8], numbers: Numbers) -> (Line, usize)
     ensures kept { LosesNone (take result.0.length text.now) 0 result.0.head result.0.label_begin result.0.label_end result.0.moves }
     ensures blank { result.0.is_blank ≡ true → HasNoMoves (drop result.0.head (take result.0.length text.now)) }
     ensures alone { result.0.is_head_alone ≡ true → HasNoMoves (drop result.0.head (take result.0.length text.now)) }
-    ensures comment { begins_with_move (drop result.0.comment (take result.0.length text.now)) ≡ false }
+    ensures comment { begins_with_turn (drop result.0.comment (take result.0.length text.now)) ≡ false }
     ensures uncommented { HasNoSlashes (slice_range (take result.0.length text.now) result.0.moves result.0.comment) }
     ensures labelled { IsLabelled (take result.0.length text.now) (drop result.0.label_begin (take result.0.length text.now))
         result.0.label_begin result.0.moves }
     ensures said { result.0.is_solution ≡ true →
-        HasWord is_plain_letter words_of_solution (slice_range (take result.0.length text.now) result.0.label_begin result.0.label_end) }
+        SaysSolution (slice_range (take result.0.length text.now) result.0.label_begin result.0.label_end) }
     ensures plain { AreInNotation (take result.0.length text.now) →
         (result.0.is_moves ≡ true) × ((result.0.moves ≡ 0) × (result.0.comment ≡ result.0.length)) }
     ensures commented { (count : ℕ) → ArePlainBefore (take result.0.length text.now) count →
@@ -328,20 +328,15 @@ pub fn cut_line(text: &[u8], numbers: Numbers) -> (Line, usize)
     (line, length + line_end_length(&text[length..]))
 }
 
-/// The same, where no more of it is asked for.
-pub fn next_line(text: &[u8], numbers: Numbers) -> (Line, usize)
-    requires { 0 < length text.now }
-    ensures line { result.0.length ≤ length text.now }
-    ensures whole { (0 < result.1) × (result.1 ≤ length text.now) }
-{
-    cut_line(text, numbers)
-}
-
 /// The bytes of the first line of a text, and how many these are with what ends it.
 #[inline(never)]
 pub fn cut_text(text: &[u8]) -> (&[u8], usize)
     requires { 0 < length text.now }
-    ensures line { length result.0.now ≤ length text.now }
+    ensures line { result.0.now ≡ take (length result.0.now) text.now }
+    ensures within { length result.0.now ≤ length text.now }
+    ensures unbroken { IsUnbroken text.now 0 (length result.0.now) }
+    ensures ends { result.1 ≡ length result.0.now + end_size text.now (length result.0.now) }
+    ensures ended { IsEnd text.now (length result.0.now) }
     ensures whole { (0 < result.1) × (result.1 ≤ length text.now) }
 {
     let length = line_length(text);

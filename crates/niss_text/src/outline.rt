@@ -5,7 +5,7 @@ ghost use Rattle.niss_text.specs.Said.{is_a_head};
 use crate::body::{are_long, begins_frame, begins_scramble, is_framed, is_half_framed};
 use crate::forms::line_length;
 use crate::line::{
-    Beside, Head, Line, Numbers, cut_text, first_line, is_blank, may_begin, next_line, whole_length,
+    Beside, Head, Line, Numbers, cut_line, cut_text, first_line, is_blank, may_begin, whole_length,
 };
 use crate::parts::number_in;
 use crate::stretches::is_open;
@@ -42,7 +42,7 @@ fn whole_scramble_length(text: &[u8], line: &Line, numbers: Numbers) -> usize
             return 0;
         }
         let rest = &text[end..];
-        let (next, length) = next_line(rest, numbers);
+        let (next, length) = cut_line(rest, numbers);
         let is_other = is_head(&next) || begins_scramble(&rest[next.moves..next.comment]);
         if !next.is_moves || next.is_step || is_other {
             return 0;
@@ -309,7 +309,7 @@ fn scramble_length(text: &[u8], numbers: Numbers, has_sign: bool) -> usize
     let first = whole_length(text);
     let mut rest = &text[first..];
     while !rest.is_empty() {
-        let (line, length) = next_line(rest, numbers);
+        let (line, length) = cut_line(rest, numbers);
         if line.is_blank || line.is_solution {
             return text.len() - rest.len();
         }

@@ -1,19 +1,26 @@
 //! What is said of moves that makes one doubt them, in their label, after them, or in a line of its own.
-ghost use Rattle.std.specs.Prelude.{◌≡◌, ◌≤◌, ◌<◌, true, length};
+ghost use Rattle.std.specs.Prelude.{◌≡◌, ◌≤◌, ◌<◌, ◌-◌, ◌⊎◌, ℕ, true, false, length, map, slice_index, slice_range};
+ghost use Rattle.std.specs.List.{Contains};
+ghost use Rattle.niss_text.specs.Signs.{is_letter};
+ghost use Rattle.niss_text.specs.Doubts.{is_letter as is_plain_letter};
+ghost use Rattle.niss_text.specs.Kept.{small};
+ghost use Rattle.niss_text.specs.Said.{DeniesNothing, HasWord, IsDenied, Names, are_spelled, words_of, words_of_links, words_of_none};
 ghost use Rattle.niss_text.specs.Doubts.{number_of};
 ghost use Rattle.niss_text.specs.Lines.{IsLine};
 ghost use Rattle.niss_text.specs.declared.doubts.Doubt.TheVariants.{Nothing};
-ghost use Rattle.niss_text.specs.declared.said.Said.TheVariants.{OfMoves};
+ghost use Rattle.niss_text.specs.declared.said.Said.TheVariants.{Beside, OfBrackets, OfMoves};
 
 use crate::doubts::Doubt;
 use crate::forms::has_bracket;
 use crate::marks::is_mark;
 use crate::sights::is_letter;
+use crate::sign::from_place;
 use crate::text_line::{LineKind, TextLine};
 use crate::topics::{
-    Topic, denies, denies_by_sign, first_topic, is_denied_behind, is_normal_side, word_of,
+    Topic, denies, denies_by_sign, first_topic, is_denied_behind, is_normal_side, names_algorithm,
+    word_of,
 };
-use crate::words::word_length;
+use crate::words::{Wanted, letters_in_front, says, sign_size, word_length};
 
 /// Of what something is said.
 #[derive(Clone, Copy, PartialEq, Eq)]
@@ -34,19 +41,110 @@ fn doubt_of_words(text: &[u8], before: &[u8], of: Said, is_denied: bool) -> Doub
     ensures others { (number_of result ≡ 4 → ⊥) × (number_of result ≡ 5 → ⊥) }
     ensures said { (number_of result ≡ 1 → ⊥) × ((number_of result ≡ 2 → ⊥) × ((number_of result ≡ 6 → ⊥) × (number_of result ≡ 11 → ⊥))) }
     ensures denied { is_denied ≡ true → (number_of result ≡ 7 → ⊥) × ((of ≡ OfMoves → ⊥) → number_of result ≡ 3 → ⊥) }
+    ensures beside { of ≡ Beside → (number_of result ≡ 7 → ⊥) × (number_of result ≡ 3 → ⊥) }
+    ensures bracketed { of ≡ OfBrackets → number_of result ≡ 3 → ⊥ }
 {
     match first_topic(text, before) {
         Some(Topic::Correction) => Doubt::Insertion,
         _ if of == Said::Beside => Doubt::Nothing,
         Some(Topic::Unread) => Doubt::Signs,
-        None => Doubt::Nothing,
-        // by such a word they are read on the inverse, denied or not
+        None if of != Said::OfOthers || !names_algorithm(word_of(text)) => Doubt::Nothing,
+        // also a side that is denied: words may say so in another way than that by which it is told
         Some(Topic::Side) if of == Said::OfMoves => Doubt::Side,
         _ if is_denied || is_denied_behind(text) => Doubt::Nothing,
         Some(Topic::Side) if of == Said::OfOthers => Doubt::Side,
         Some(Topic::Repetition) => Doubt::Repetition,
-        Some(Topic::Insertion) => Doubt::Insertion,
+        Some(Topic::Insertion) | None => Doubt::Insertion,
         _ => Doubt::Nothing,
+    }
+}
+
+/// Whether a word that is denied or not leaves what follows denied, after a sign of that many bytes, which others begin with.
+fn stays_denied(word: &[u8], is_denied: bool, others: &[u8], sign: usize) -> bool
+    requires { sign ≤ length others.now }
+    ensures none { 0 < length word.now → Contains words_of_none (map small word.now) → slice_index others.now 0 ≡ 32 → sign ≤ 1 → result ≡ true }
+    ensures goes_on { 0 < length word.now → is_denied ≡ true → Contains words_of_links (map small word.now) →
+        slice_index others.now 0 ≡ 32 → sign ≤ 1 → result ≡ true }
+{
+    let is_denied = if word.is_empty() {
+        is_denied
+    } else {
+        denies(word, is_denied)
+    };
+    denies_by_sign(from_place(others, sign.saturating_sub(1)), is_denied)
+}
+
+/// Whether a text has a word of such that isn't denied.
+fn names_undenied(text: &[u8], wanted: Wanted) -> bool
+    ensures { result ≡ true → Names is_plain_letter (words_of wanted) text.now }
+{
+    let mut is_denied = false;
+    let mut rest = text;
+    while !rest.is_empty() {
+        let letters = letters_in_front(rest);
+        let word = &rest[..letters];
+        if letters > 1 && wanted.has(word) && !is_denied && !is_denied_behind(rest) {
+            return true;
+        }
+        let others = from_place(rest, letters);
+        let sign = sign_size(others);
+        is_denied = stays_denied(word, is_denied, others, sign);
+        rest = from_place(others, sign);
+    }
+    false
+}
+
+/// Whether a text has a word of such, but not as what there is nothing of, as in `nothing on inverse`.
+pub fn names(text: &[u8], wanted: Wanted) -> bool
+    ensures said { result ≡ true → Names is_plain_letter (words_of wanted) text.now }
+    ensures all { are_spelled (words_of wanted) ≡ true → DeniesNothing text.now → HasWord is_letter (words_of wanted) text.now → result ≡ true }
+{
+    says(text, wanted) && (!says(text, Wanted::Denial) || names_undenied(text, wanted))
+}
+
+/// Whether no word begins with a byte, nor within a sign that it begins.
+fn is_sign(byte: u8) -> bool
+    ensures letter { result ≡ true → is_plain_letter byte ≡ false }
+    ensures blank { byte ≡ 32 → result ≡ true }
+{
+    !is_letter(byte) && byte < 0xc0
+}
+
+/// Whether no letter of ASCII stands before a place of a part of a text.
+fn begins_word(text: &[u8], from: usize, at: usize) -> bool
+    requires { at ≤ length text.now }
+    ensures begun { result ≡ true → from < at → is_plain_letter (slice_index text.now (at - 1)) ≡ false }
+    ensures within { result ≡ false → from ≤ at → (from < at) × (is_plain_letter (slice_index text.now (at - 1)) ≡ true) }
+{
+    at <= from || !is_letter(text[at - 1])
+}
+
+/// What makes one doubt moves by the letters that a text begins with, after others: by a word that begins there, or by
+/// the inverse within one.
+fn doubt_there(text: &[u8], before: &[u8], is_begun: bool, of: Said, is_denied: bool) -> Doubt
+    ensures others { (number_of result ≡ 4 → ⊥) × (number_of result ≡ 5 → ⊥) }
+    ensures said { (number_of result ≡ 1 → ⊥) × ((number_of result ≡ 2 → ⊥) × ((number_of result ≡ 6 → ⊥) × (number_of result ≡ 11 → ⊥))) }
+    ensures denied { is_denied ≡ true → (number_of result ≡ 7 → ⊥) × ((of ≡ OfMoves → ⊥) → number_of result ≡ 3 → ⊥) }
+    ensures beside { of ≡ Beside → (number_of result ≡ 7 → ⊥) × (number_of result ≡ 3 → ⊥) }
+    ensures bracketed { of ≡ OfBrackets → number_of result ≡ 3 → ⊥ }
+{
+    if is_normal_side(text, before) || !(is_begun || word_length(text, b"inv") > 0) {
+        Doubt::Nothing
+    } else {
+        doubt_of_words(text, before, of, is_denied)
+    }
+}
+
+/// Whether what follows a word is denied, if the word begins here.
+fn denied_after(word: &[u8], is_begun: bool, is_denied: bool) -> bool
+    ensures within { is_begun ≡ false → result ≡ is_denied }
+    ensures none { is_begun ≡ true → 0 < length word.now → Contains words_of_none (map small word.now) → result ≡ true }
+    ensures goes_on { is_begun ≡ true → 0 < length word.now → is_denied ≡ true → Contains words_of_links (map small word.now) → result ≡ true }
+{
+    if is_begun {
+        denies(word, is_denied)
+    } else {
+        is_denied
     }
 }
 
@@ -57,31 +155,26 @@ pub fn first_said(text: &[u8], from: usize, to: usize, of: Said) -> (Doubt, usiz
     ensures fits { result.1 ≤ to }
     ensures there { from ≤ to → from ≤ result.1 }
     ensures nowhere { result.0 ≡ Nothing → result.1 ≡ to }
+    ensures free { (number_of result.0 ≡ 7) ⊎ ((of ≡ OfMoves → ⊥) × (number_of result.0 ≡ 3)) → (between : ℕ) →
+        IsDenied between (slice_range text.now from to) (result.1 - from) → ⊥ }
+    ensures beside { of ≡ Beside → (number_of result.0 ≡ 7 → ⊥) × (number_of result.0 ≡ 3 → ⊥) }
+    ensures bracketed { of ≡ OfBrackets → number_of result.0 ≡ 3 → ⊥ }
     ensures others { (number_of result.0 ≡ 4 → ⊥) × (number_of result.0 ≡ 5 → ⊥) }
     ensures said { (number_of result.0 ≡ 1 → ⊥) × ((number_of result.0 ≡ 2 → ⊥) × ((number_of result.0 ≡ 6 → ⊥) × (number_of result.0 ≡ 11 → ⊥))) }
 {
     let mut is_denied = false;
     for at in from..to {
         let rest = &text[at..to];
-        // no word begins within a sign
-        if !is_letter(text[at]) && text[at] < 0xc0 {
+        if is_sign(text[at]) {
             is_denied = denies_by_sign(rest, is_denied);
             continue;
         }
-        let is_begun = at == from || !is_letter(text[at.saturating_sub(1)]);
-        let before = &text[from..at];
-        if is_normal_side(rest, before) {
-            continue;
+        let is_begun = begins_word(text, from, at);
+        let doubt = doubt_there(rest, &text[from..at], is_begun, of, is_denied);
+        if doubt != Doubt::Nothing {
+            return (doubt, at);
         }
-        if is_begun || (matches!(text[at], b'i' | b'I') && word_length(rest, b"inv") > 0) {
-            let doubt = doubt_of_words(rest, before, of, is_denied);
-            if doubt != Doubt::Nothing {
-                return (doubt, at);
-            }
-        }
-        if is_begun {
-            is_denied = denies(word_of(rest), is_denied);
-        }
+        is_denied = denied_after(word_of(rest), is_begun, is_denied);
     }
     (Doubt::Nothing, to)
 }
@@ -92,6 +185,8 @@ pub fn doubt_said(text: &[u8], told: &TextLine) -> (Doubt, usize)
     requires line { IsLine told.now.begin told.now }
     requires fits { told.now.end ≤ length text.now }
     ensures place { (told.now.begin ≤ result.1) × (result.1 ≤ told.now.end) }
+    ensures free { told.now.kind ≡ 4 → (number_of result.0 ≡ 3) ⊎ (number_of result.0 ≡ 7) → (between : ℕ) →
+        IsDenied between (slice_range text.now told.now.head_end told.now.end) (result.1 - told.now.head_end) → ⊥ }
     ensures others { (number_of result.0 ≡ 4 → ⊥) × (number_of result.0 ≡ 5 → ⊥) }
     ensures said { (number_of result.0 ≡ 1 → ⊥) × ((number_of result.0 ≡ 2 → ⊥) × ((number_of result.0 ≡ 6 → ⊥) × (number_of result.0 ≡ 11 → ⊥))) }
 {

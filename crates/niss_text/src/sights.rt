@@ -78,7 +78,7 @@ fn is_times(byte: u8) -> bool
 }
 
 /// The byte of a text at a place, 0 after its end.
-fn byte_at(text: &[u8], at: usize) -> u8
+pub fn byte_at(text: &[u8], at: usize) -> u8
     ensures { result ≡ slice_index text.now at }
 {
     if at < text.len() { text[at] } else { 0 }

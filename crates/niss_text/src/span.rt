@@ -1,7 +1,7 @@
 //! Where the moves of a line begin and end: after words in front of them that are none, and before those after them.
 ghost use Rattle.std.specs.Prelude.{◌≡◌, ◌≤◌, ◌<◌, ℕ, List, length, drop, true, false};
-ghost use Rattle.niss_text.specs.Kept.{AreInNotation, begins_with_move, IsNoMove};
-ghost use Rattle.niss_text.specs.declared.word.Word.TheVariants.{Move};
+ghost use Rattle.niss_text.specs.Kept.{AreInNotation, begins_with_move, begins_with_turn, IsNoMove};
+ghost use Rattle.niss_text.specs.declared.word.Word.TheVariants.{Move, Other};
 
 use crate::sign::from_place;
 use crate::word::{Word, are_plain_moves, first_word};
@@ -168,8 +168,8 @@ impl Frame {
         ensures bracket { self.bracket ≤ begin → result.bracket ≤ end }
         ensures name { self.name ≤ begin → result.name ≤ end }
         ensures tail_is { (text : List ℕ) → IsNoMove text self.has_tail self.tail → IsNoMove text self.is_open self.bracket →
-            ((word ≡ Move → ⊥) → IsNoMove text true begin) → IsNoMove text result.has_tail result.tail }
-        ensures open_is { (text : List ℕ) → IsNoMove text self.is_open self.bracket → ((word ≡ Move → ⊥) → IsNoMove text true begin) →
+            ((word ≡ Move → ⊥) → (word ≡ Other → ⊥) → IsNoMove text true begin) → IsNoMove text result.has_tail result.tail }
+        ensures open_is { (text : List ℕ) → IsNoMove text self.is_open self.bracket → ((word ≡ Move → ⊥) → (word ≡ Other → ⊥) → IsNoMove text true begin) →
             IsNoMove text result.is_open result.bracket }
         ensures stays { self.is_lead ≡ false → (result.is_lead ≡ false) × (result.lead ≡ self.lead) }
         ensures moved { word ≡ Move → (result.is_lead ≡ false) × (result.lead ≡ self.lead) }
@@ -230,7 +230,7 @@ impl Frame {
         requires { self.name ≤ length }
         ensures fits { result.end ≤ length }
         ensures name { result.name ≤ length }
-        ensures tail { (text : List ℕ) → IsNoMove text self.has_tail self.tail → result.end < length → begins_with_move (drop result.end text) ≡ false }
+        ensures tail { (text : List ℕ) → IsNoMove text self.has_tail self.tail → result.end < length → begins_with_turn (drop result.end text) ≡ false }
         ensures front { self.lead ≡ 0 → result.begin ≡ 0 }
     {
         let is_told = self.moves > 1 && !(self.is_open && self.is_of_moves);
@@ -260,7 +260,7 @@ impl Frame {
 pub fn span_of(line: &[u8]) -> Span
     ensures fits { result.end ≤ length line.now }
     ensures name { result.name ≤ length line.now }
-    ensures tail { result.end < length line.now → begins_with_move (drop result.end line.now) ≡ false }
+    ensures tail { result.end < length line.now → begins_with_turn (drop result.end line.now) ≡ false }
     ensures plain { AreInNotation line.now → (result.is_moves ≡ true) × ((result.begin ≡ 0) × (result.end ≡ length line.now)) }
     ensures front { begins_with_move line.now ≡ true → result.begin ≡ 0 }
 {

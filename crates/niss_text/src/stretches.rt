@@ -4,7 +4,7 @@ ghost use Rattle.std.specs.Prelude.{◌≤◌, ◌<◌, length};
 
 use crate::forms::is_parted;
 use crate::line::{
-    Head, Line, Numbers, cut_text, first_line, head_in_front, next_line, whole_length,
+    Head, Line, Numbers, cut_line, cut_text, first_line, head_in_front, whole_length,
 };
 use crate::parts::number_in;
 use crate::sign::trimmed;
@@ -54,7 +54,7 @@ pub fn stretch_length(text: &[u8]) -> usize
 fn has_open(text: &[u8]) -> bool {
     let mut rest = text;
     while !rest.is_empty() {
-        let (line, length) = next_line(rest, Numbers::OfLines);
+        let (line, length) = cut_line(rest, Numbers::OfLines);
         if is_open(&line) {
             return true;
         }
@@ -95,7 +95,7 @@ fn has_numbered_step(text: &[u8], numbers: Numbers) -> bool {
 fn goes_on(text: &[u8], numbers: Numbers, number: usize) -> bool {
     let mut rest = text;
     while !rest.is_empty() {
-        let (line, length) = next_line(rest, numbers);
+        let (line, length) = cut_line(rest, numbers);
         if line.head_kind == Head::Number {
             return number_in(&rest[..line.head]) == Some(number);
         }
@@ -124,7 +124,7 @@ fn are_listed(text: &[u8], numbers: Numbers) -> bool {
     let mut number = None;
     let mut first = None;
     while !rest.is_empty() {
-        let (line, length) = next_line(rest, numbers);
+        let (line, length) = cut_line(rest, numbers);
         let is_number = line.head_kind == Head::Number;
         if is_number && has_own && line.is_step {
             return false;

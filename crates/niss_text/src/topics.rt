@@ -1,5 +1,7 @@
 //! What solvers say of moves that their reading hangs on, in words of some languages.
-ghost use Rattle.std.specs.Prelude.{◌≡◌, ◌<◌, ◌⊎◌, true, false, length, map};
+ghost use Rattle.std.specs.Prelude.{◌≡◌, ◌<◌, ◌⊎◌, ℕ, true, false, length, map, take, slice_index};
+ghost use Rattle.niss_text.specs.Signs.{is_letter};
+ghost use Rattle.niss_text.specs.Doubts.{is_letter as is_plain_letter};
 ghost use Rattle.std.specs.List.{Contains};
 ghost use Rattle.niss_text.specs.Kept.{small};
 ghost use Rattle.niss_text.specs.Said.{words_of_links, words_of_none};
@@ -27,7 +29,11 @@ pub enum Topic {
 const MOST_BYTES: usize = 12;
 
 /// The letters that a text begins with, or the first ones of a row that is longer than such a word.
-pub fn word_of(text: &[u8]) -> &[u8] {
+pub fn word_of(text: &[u8]) -> &[u8]
+    ensures is { result.now ≡ take (length result.now) text.now }
+    ensures letters { (k : ℕ) → k < length result.now → is_letter (slice_index text.now k) ≡ true }
+    ensures ended { length result.now < 12 → is_plain_letter (slice_index text.now (length result.now)) ≡ false }
+{
     let begin = &text[..text.len().min(MOST_BYTES)];
     &begin[..length_of(begin, Class::Letters)]
 }
@@ -117,6 +123,7 @@ const COMPARISONS: &[u8] = b"twice as,thrice as,times as";
 /// Letters by which solvers say that moves belong into others, or that others belong into these.
 fn insertions_by(letter: u8) -> &'static [u8] {
     match letter {
+        b'a' => b"at move",
         b'b' => b"between",
         b'c' => b"corner cycle",
         b'e' => b"einf,esquel,edge cycle",
@@ -143,6 +150,14 @@ fn corrections_by(letter: u8) -> &'static [u8] {
 
 /// Words by which they do.
 const CORRECTION_WORDS: &[u8] = b"edit,update";
+
+/// Names of algorithms that solvers make by heart.
+const ALGORITHMS: &[u8] = b"perm,sune,antisune,sexy,sledge,niklas";
+
+/// Whether a word names such moves, without saying which they are.
+pub fn names_algorithm(word: &[u8]) -> bool {
+    fits_one_of(word, ALGORITHMS, true)
+}
 
 /// How a link begins, or the moves in one.
 const LINKS: &[u8] = b"http,www.,alg=";
@@ -248,7 +263,9 @@ pub fn denies(word: &[u8], is_denied: bool) -> bool
 
 /// Whether the sign that a text begins with, which is no letter, leaves what follows denied: a blank does if it was, and the
 /// apostrophe of `didn't` does.
-pub fn denies_by_sign(text: &[u8], is_denied: bool) -> bool {
+pub fn denies_by_sign(text: &[u8], is_denied: bool) -> bool
+    ensures { slice_index text.now 0 ≡ 32 → result ≡ is_denied }
+{
     if text.is_empty() {
         return false;
     }

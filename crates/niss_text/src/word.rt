@@ -1,12 +1,12 @@
 //! The words of a line: moves that stand alone, moves in one word, and words that are no moves.
 ghost use Rattle.std.specs.Prelude.{◌≡◌, ◌≤◌, ◌<◌, ℕ, true, length, slice_index};
-ghost use Rattle.niss_text.specs.Kept.{AreInNotation, begins_with_move, follows_move, goes_on, needs_more};
-ghost use Rattle.niss_text.specs.declared.word.Word.TheVariants.{Move};
+ghost use Rattle.niss_text.specs.Kept.{AreInNotation, begins_with_layers, begins_with_move, follows_move, goes_on, needs_more};
+ghost use Rattle.niss_text.specs.declared.word.Word.TheVariants.{Move, Other};
 
 use crate::forms::count_length;
 use crate::short_word::short_word;
-use crate::sights::is_capital;
-use crate::sign::{Kind, first_kind, first_sign};
+use crate::sights::{byte_at, is_capital, is_letter};
+use crate::sign::{Kind, first_kind, first_sign, is_digit_byte};
 use crate::spelling::{Spelling, is_capital_move};
 use crate::words::is_step_name;
 
@@ -301,12 +301,27 @@ fn has_glued_moves(word: &[u8]) -> bool {
     false
 }
 
+/// Whether a text begins with a turn of as many layers as a digit says, such as `3Rw`: it is none of this cube, but no word.
+#[tactic(auto, unfolding(crate::specs::Kept::begins_with_layers))]
+fn begins_with_layers(text: &[u8]) -> bool
+    ensures { result ≡ begins_with_layers text.now }
+{
+    is_digit_byte(byte_at(text, 0))
+        && (is_capital(byte_at(text, 1))
+            && (byte_at(text, 2) == b'w' && !is_letter(byte_at(text, 3))))
+}
+
 /// The first word of a text, and how many bytes it has.
+#[tactic(auto, using(crate::proofs::LayerLemmas::not_both))]
 pub fn first_word(text: &[u8]) -> (Word, usize)
     requires { 0 < length text.now }
     ensures fits { (0 < result.1) × (result.1 ≤ length text.now) }
     ensures single { begins_with_move text.now ≡ true → result.0 ≡ Move }
+    ensures layers { begins_with_layers text.now ≡ true → result.0 ≡ Other }
 {
+    if begins_with_layers(text) {
+        return (Word::Other, spelled(text, false).1);
+    }
     if let Some(word) = short_word(text) {
         return word;
     }

@@ -4,7 +4,7 @@ ghost use Rattle.niss_text.specs.Signs.{is_letter};
 ghost use Rattle.niss_text.specs.Doubts.{is_letter as is_plain_letter};
 ghost use Rattle.std.specs.List.{Contains};
 ghost use Rattle.niss_text.specs.Kept.{small};
-ghost use Rattle.niss_text.specs.Said.{HasWord, listed, words_of, words_of_links, words_of_none, words_of_step, are_spelled};
+ghost use Rattle.niss_text.specs.Said.{HasWord, SaysSolution, listed, words_of, words_of_links, words_of_none, words_of_step, are_spelled};
 
 use crate::sign::{Class, from_place, is_letter_byte, length_of, one_sign};
 
@@ -122,11 +122,13 @@ pub enum Wanted {
     Inverse,
     /// What makes the inverse something else than the side of these moves.
     Switch,
+    /// What says that there is nothing of what follows, also by an apostrophe after it.
+    Denial,
 }
 
 impl Wanted {
     /// Whether a word is of them.
-    fn has(self, word: &[u8]) -> bool
+    pub fn has(self, word: &[u8]) -> bool
         ensures said { result ≡ true → Contains (words_of self) (map small word.now) }
         ensures all { 0 < length word.now → Contains (words_of self) (map small word.now) → result ≡ true }
     {
@@ -138,6 +140,7 @@ impl Wanted {
             Wanted::Scramble => fits_one_of(word, SCRAMBLES, true),
             Wanted::Inverse => fits_one_of(word, b"inverse,inv", true),
             Wanted::Switch => fits_one_of(word, b"normal,niss,switch,premove,premoves", true),
+            Wanted::Denial => fits_one_of(word, DENIALS, true),
         }
     }
 }
@@ -145,6 +148,10 @@ impl Wanted {
 /// What solvers call a solution, or what they wrote down for the judge. Only letters of ASCII may be capital ones.
 const SOLUTIONS: &[u8] =
     b"solution,sol,submitted,l\xc3\xb6sung,l\xc3\xb6sning,soluci\xc3\xb3n,solucion,soluzione,solu\xc3\xa7\xc3\xa3o,rozwi\xc4\x85zanie,oplossing,\xc3\xa7\xc3\xb6z\xc3\xbcm,\xc3\x87\xc3\xb6z\xc3\xbcm,\xd1\x80\xd0\xb5\xd1\x88\xd0\xb5\xd0\xbd\xd0\xb8\xd0\xb5,\xd0\xa0\xd0\xb5\xd1\x88\xd0\xb5\xd0\xbd\xd0\xb8\xd0\xb5,\xe8\xa7\xa3\xe6\xb3\x95,\xe8\xa7\xa3\xe7\xad\x94,\xed\x92\x80\xec\x9d\xb4";
+
+/// The words of none, and those that have `'t` after them.
+const DENIALS: &[u8] =
+    b"no,not,nothing,none,never,without,didn,don,doesn,can,couldn,hadn,hasn,haven,isn,aren,ain,wasn,weren,won,wouldn,shouldn";
 
 /// What solvers call a scramble.
 const SCRAMBLES: &[u8] =
@@ -173,7 +180,7 @@ pub fn is_link(word: &[u8]) -> bool
 {
     fits_one_of(
         word,
-        b"on,in,from,with,the,a,an,any,good,find,found,using,t",
+        b"on,in,from,with,the,a,an,any,anything,good,better,eo,dr,htr,find,found,using,t",
         true,
     )
 }
@@ -213,7 +220,7 @@ fn has_word(text: &[u8]) -> bool
 }
 
 /// How many bytes the first sign of a text has: none of none.
-fn sign_size(text: &[u8]) -> usize
+pub fn sign_size(text: &[u8]) -> usize
     ensures some { 0 < length text.now → 0 < result }
     ensures fits { result ≤ length text.now }
     ensures inner { (k : ℕ) → 0 < k → k < result → is_plain_letter (slice_index text.now k) ≡ false }
@@ -251,24 +258,41 @@ pub fn behind_letters(text: &[u8], letters: usize) -> &[u8]
     from_place(others, sign_size(others))
 }
 
-/// Whether a text has a word of such.
+/// Where the first word of such begins that a text has: at its end if it has none.
 #[inline(never)]
-pub fn says(text: &[u8], wanted: Wanted) -> bool
-    ensures said { result ≡ true → HasWord is_plain_letter (words_of wanted) text.now }
-    ensures all { are_spelled (words_of wanted) ≡ true → HasWord is_letter (words_of wanted) text.now → result ≡ true }
+pub fn place_said(text: &[u8], wanted: Wanted) -> usize
+    ensures fits { result ≤ length text.now }
+    ensures said { result < length text.now → (has : HasWord is_plain_letter (words_of wanted) text.now) × (has.at ≡ result) }
+    ensures all { are_spelled (words_of wanted) ≡ true → HasWord is_letter (words_of wanted) text.now → result < length text.now }
 {
     if !has_word(text) {
-        return false;
+        return text.len();
     }
     let mut rest = text;
     while !rest.is_empty() {
         let letters = letters_in_front(rest);
         // none of these words is a letter by itself, as most moves are
         if letters > 1 && wanted.has(&rest[..letters]) {
-            return true;
+            return text.len() - rest.len();
         }
         let others = from_place(rest, letters);
         rest = from_place(others, sign_size(others));
     }
-    false
+    text.len()
+}
+
+/// Whether a text has a word of such.
+pub fn says(text: &[u8], wanted: Wanted) -> bool
+    ensures said { result ≡ true → HasWord is_plain_letter (words_of wanted) text.now }
+    ensures all { are_spelled (words_of wanted) ≡ true → HasWord is_letter (words_of wanted) text.now → result ≡ true }
+{
+    place_said(text, wanted) < text.len()
+}
+
+/// Whether a label says that the solution follows, and before that no step of which it is.
+pub fn says_solution(title: &[u8]) -> bool
+    ensures { result ≡ true → SaysSolution title.now }
+{
+    let at = place_said(title, Wanted::Solution);
+    at < title.len() && !says(&title[..at], Wanted::Step)
 }

@@ -1,7 +1,7 @@
 use Rattle.std.proofs.Common.{ℕ, List, take, slice_range, sym, subst, ◌∙◌, arith}
 use Rattle.niss_text.specs.Kept.{BeginNoMoves, IsTitleEnd}
 use Rattle.niss_text.proofs.KeptLemmas.{part_of_rest, moves_begin, title_none}
-use Rattle.niss_text.proofs.WordLemmas.{none_at_end}
+use Rattle.niss_text.proofs.LayerLemmas.{none_at_end}
 use Rattle.niss_text.proofs.line.headed_line.Goals as goal
 
 pub returns-then-is_empty-clause-margin : goal.returns-then-is_empty-clause-margin

@@ -1,5 +1,5 @@
 use Rattle.std.proofs.Common.{◌≡◌, ◌<◌, length, drop, get_or, true, ap, ◌∙◌, rules, arith}
-use Rattle.niss_text.proofs.WordLemmas.{none_at_end}
+use Rattle.niss_text.proofs.LayerLemmas.{none_at_end}
 use Rattle.niss_text.proofs.KeptLemmas.{kept_blank, kept_headed}
 use Rattle.niss_text.specs.Doubts.{is_capital}
 use Rattle.niss_text.specs.declared.line.Head.TheVariants.{None as NoHead}

@@ -2,7 +2,7 @@ use Rattle.std.proofs.Common.{ℕ, List, ◌≡◌, ◌+◌, ◌-◌, ◌<◌, �
 use Rattle.niss_text.specs.Signs.{AreSigns, is_spacing}
 use Rattle.niss_text.specs.Kept.{IsTitleEnd}
 use Rattle.niss_text.proofs.KeptLemmas.{blank_title, whole_title, part_long}
-use Rattle.niss_text.proofs.WordLemmas.{comment_begins}
+use Rattle.niss_text.proofs.LayerLemmas.{comment_begins}
 use Rattle.niss_text.proofs.CommentLemmas.{parts_plain}
 use Rattle.niss_text.proofs.SaidLemmas.{no_slashes}
 use Rattle.niss_text.proofs.FrontLemmas.{labelled}

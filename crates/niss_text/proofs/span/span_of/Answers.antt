@@ -1,8 +1,9 @@
 use Rattle.std.proofs.Common.{◌≡◌, ℕ, List, ◌+◌, ◌-◌, ◌≤◌, inl, inr, length, drop, true, false, ap, ◌∙◌, subst, arith}
-use Rattle.std.proofs.lemmas.Bool.{cases_lt, false_from_ne_true}
-use Rattle.niss_text.specs.Kept.{begins_with_move, IsNoMove}
-use Rattle.niss_text.specs.declared.word.Word.TheVariants.{Move}
+use Rattle.std.proofs.lemmas.Bool.{cases_lt}
+use Rattle.niss_text.specs.Kept.{begins_with_move, begins_with_turn, IsNoMove}
+use Rattle.niss_text.specs.declared.word.Word.TheVariants.{Move, Other}
 use Rattle.niss_text.proofs.KeptLemmas.{passed_so_far}
+use Rattle.niss_text.proofs.LayerLemmas.{turn_by_word}
 use Rattle.niss_text.proofs.span.span_of.Goals as goal
 
 pub loop-rest-preserved : goal.loop-rest-preserved
@@ -16,8 +17,8 @@ loop-rest-preserved c =
     let begin : ℕ = length line - length rest in
     let far = passed_so_far line rest next word.result.1 inv.left inv.rest word.ensures.fits.1 c.from_place-rest.ensures in
     let there : begin + word.result.1 ≡ length line - length next = omega (arith, far.0, inv.left) in
-    let none : (word.result.0 ≡ Move → ⊥) → IsNoMove line true begin =
-    λ not t. subst (λ v. begins_with_move v ≡ false) inv.rest (false_from_ne_true (begins_with_move rest) (λ is. not (word.ensures.single is))) in
+    let none : (word.result.0 ≡ Move → ⊥) → (word.result.0 ≡ Other → ⊥) → IsNoMove line true begin = λ move other t.
+    subst (λ v. begins_with_turn v ≡ false) inv.rest (turn_by_word rest (λ is. move (word.ensures.single is)) (λ is. other (word.ensures.layers is))) in
     record {
       left = omega (arith, far.0, inv.left);
       rest = far.1;

@@ -1,7 +1,7 @@
 use Rattle.std.proofs.Common.{map, sym, subst, refl}
 use Rattle.std.specs.List.{Contains}
 use Rattle.niss_text.specs.Kept.{small}
-use Rattle.niss_text.specs.Said.{words_of, words_of_solution, words_of_scramble, words_of_inverse, words_of_switch}
+use Rattle.niss_text.specs.Said.{words_of, words_of_solution, words_of_scramble, words_of_inverse, words_of_switch, words_of_denial}
 use Rattle.niss_text.specs.declared.words.Wanted.{Wanted}
 use Rattle.niss_text.proofs.words.Wanted.has.Goals as goal
 unfoldable use Rattle.niss_text.specs.Said.{before_words, listed}
@@ -49,3 +49,14 @@ pub returns-in-Switch-clause-all : goal.returns-in-Switch-clause-all
 unfolding listed before_words
 returns-in-Switch-clause-all c = λ some is.
     c.fits_one_of-in-Switch.ensures.all refl some (subst (λ (w : Wanted). Contains (words_of w) (map small c.args.word.now)) c.in-Switch.is is)
+
+pub returns-in-Denial-clause-said : goal.returns-in-Denial-clause-said
+unfolding listed before_words
+returns-in-Denial-clause-said c = λ is.
+    let said : Contains words_of_denial (map small c.args.word.now) = c.fits_one_of-in-Denial.ensures.whole refl is in
+    subst (λ (w : Wanted). Contains (words_of w) (map small c.args.word.now)) (sym c.in-Denial.is) said
+
+pub returns-in-Denial-clause-all : goal.returns-in-Denial-clause-all
+unfolding listed before_words
+returns-in-Denial-clause-all c = λ some is.
+    c.fits_one_of-in-Denial.ensures.all refl some (subst (λ (w : Wanted). Contains (words_of w) (map small c.args.word.now)) c.in-Denial.is is)

@@ -5,13 +5,13 @@ use Rattle.niss_text.specs.Doubts.{is_letter as is_plain_letter}
 use Rattle.niss_text.specs.Said.{words_of}
 use Rattle.niss_text.proofs.KeptLemmas.{passed_so_far}
 use Rattle.niss_text.proofs.SaidLemmas.{said_here, two_letters, left_next, passed_last}
-use Rattle.niss_text.proofs.words.says.Goals.{else-letters-gt1-via-then-letters-gt1+else-has, else-letters-gt1-via-else-letters-gt1}
-use Rattle.niss_text.proofs.words.says.Goals as goal
+use Rattle.niss_text.proofs.words.place_said.Goals.{else-letters-gt1-via-then-letters-gt1+else-has, else-letters-gt1-via-else-letters-gt1}
+use Rattle.niss_text.proofs.words.place_said.Goals as goal
 
 pub returns-then-not-has_word-clause-all : goal.returns-then-not-has_word-clause-all
 returns-then-not-has_word-clause-all c = λ all has.
     let two = two_letters (words_of c.args.wanted) c.args.text.now all has in
-    sym c.if-not-has_word.true ∙ c.has_word.ensures has.at two.0 two.1
+    absurd (false≢true (sym c.if-not-has_word.true ∙ c.has_word.ensures has.at two.0 two.1))
 
 pub returns-then-has-clause-said : goal.returns-then-has-clause-said
 returns-then-has-clause-said c = λ yes.

@@ -2,7 +2,7 @@ use Rattle.std.proofs.Common.{◌≡◌, ◌-◌, ◌<◌, ◌≤◌, true, fals
 use Rattle.niss_text.specs.Signs.{is_letter}
 use Rattle.niss_text.specs.Doubts.{is_letter as is_plain_letter}
 use Rattle.niss_text.specs.Said.{HasWord, words_of, are_spelled}
-use Rattle.niss_text.proofs.words.says.Given as goal
+use Rattle.niss_text.proofs.words.place_said.Given as goal
 
 abbrev pub invariant-loop-rest : goal.invariant-loop-rest
 invariant-loop-rest l = record {
