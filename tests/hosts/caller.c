@@ -48,40 +48,73 @@ static void say_check(text of, lines those) {
 }
 
 /* Whether a byte may be of a word, or of a face such as ":D". */
-static int is_of_word(uint8_t byte) { return isalnum(byte) || byte >= 128 || (byte && strchr("':;<=", byte)); }
+static int is_of_word(uint8_t byte) { return isalnum(byte) || (byte && strchr(":;<=", byte)); }
 
-/* Where a turn first stands in the comment of a line as a word by itself. */
-static uint64_t said_in(text of, const nissy_text_line *line, const char *turn) {
+/* Where the letter of a face, capital or small, first stands in the comment of a line outside words. */
+static uint64_t said_in(text of, const nissy_text_line *line, char face) {
     for (uint64_t at = line ? line->comment : 0; line && at < line->end; at++) {
         const uint8_t next = at + 1 < of.length ? of.bytes[at + 1] : 0;
-        const uint64_t behind = at + strlen(turn);
-        if (of.bytes[at] != (uint8_t)turn[0] || (uint8_t)turn[1] != (next == '2' || next == '\'' ? next : 0)) continue;
-        if (!is_of_word(of.bytes[at - 1]) && (behind == of.length || !is_of_word(of.bytes[behind]))) return at;
+        if (toupper(of.bytes[at]) != face || is_of_word(of.bytes[at - 1])) continue;
+        if (!is_of_word(next) || next == '2' || next == '3') return at;
     }
     return NISSY_NO_PLACE;
 }
 
-static int is_stray(uint8_t byte) { return byte && strchr("!?|", byte); }
+static int is_stray(uint8_t byte) { return byte && strchr("!?|&", byte); }
+
+/* The end of a stretch without the blanks at it. */
+static uint64_t end_of(text of, uint64_t begin, uint64_t end) {
+    while (end > begin && (of.bytes[end - 1] == ' ' || of.bytes[end - 1] == '\t')) end--;
+    return end;
+}
 
 /* Where a sign stands behind the moves of a step, and before them. */
 static uint64_t sign_behind(text of, const nissy_text_line *line) {
-    if (!line || line->comment == line->end) return NISSY_NO_PLACE;
-    return is_stray(of.bytes[line->comment]) || isdigit(of.bytes[line->comment]) ? line->comment : NISSY_NO_PLACE;
+    if (!line) return NISSY_NO_PLACE;
+    const uint8_t next = line->comment < line->end ? of.bytes[line->comment] : 0;
+    if (is_stray(next) || isdigit(next)) return line->comment;
+    const uint64_t end = end_of(of, line->moves, line->comment);
+    return end > line->moves + 2 && !memcmp(of.bytes + end - 2, "()", 2) ? end - 2 : NISSY_NO_PLACE;
 }
 
 static uint64_t sign_before(text of, const nissy_text_line *line) {
     if (!line) return NISSY_NO_PLACE;
-    if (line->label_begin < line->label_end && is_stray(of.bytes[line->label_begin])) return line->label_begin;
+    const uint64_t end = end_of(of, line->label_begin, line->moves);
+    if (end > line->label_begin && is_stray(of.bytes[end - 1])) return end - 1;
     return line->moves + 2 <= line->comment && !memcmp(of.bytes + line->moves, "()", 2) ? line->moves : NISSY_NO_PLACE;
 }
 
 static uint64_t first_of(uint64_t one, uint64_t other) { return one != NISSY_NO_PLACE ? one : other; }
 
-/* Whether steps, of which each is a line, solve a scramble with a turn before one of them. */
-static int solves_with(const written *scramble, const written *steps, uint64_t place, const char *turn) {
-    uint8_t *const line = memory(steps->length + 5);
+/* All steps of an attempt: the line of each, from 1 on, and where it ends in them; and how many signs stand beside them. */
+typedef struct whole {
+    const nissy_text_line *step[14];
+    uint64_t ends[13], signs;
+    size_t count;
+} whole;
+
+/* Whether there are at most twelve steps, each on a line of its own, and not too long. */
+static int is_whole(text of, lines those, const written *steps, whole *it) {
+    size_t ends = 0;
+    for (size_t at = 0; at < those.count; at++) {
+        if (those.first[at].kind != NISSY_STEP_LINE) continue;
+        if (++it->count > 12) return 0;
+        it->step[it->count] = those.first + at;
+        it->signs += sign_before(of, those.first + at) != NISSY_NO_PLACE;
+        it->signs += sign_behind(of, those.first + at) != NISSY_NO_PLACE;
+    }
+    for (uint64_t at = 0, is_open = 0; at < steps->length; at++) {
+        is_open = steps->bytes[at] == '(' || (is_open && steps->bytes[at] != ')');
+        if ((steps->bytes[at] == '\n' && !is_open) || at + 1 == steps->length) it->ends[++ends > 12 ? 12 : ends] = at + 1;
+    }
+    return ends == it->count && steps->length <= NISSY_MOST_STEPS;
+}
+
+/* Whether steps, of which each is a line, solve a scramble with moves before one of them. */
+static int solves_with(const written *scramble, const written *steps, uint64_t place, const char *moves) {
+    uint8_t *const line = memory(steps->length + 9);
     memcpy(line, steps->bytes, place);
-    const size_t more = (size_t)sprintf((char *)line + place, " %s ", turn);
+    const size_t more = (size_t)sprintf((char *)line + place, " %s ", moves);
     memcpy(line + place + more, steps->bytes + place, steps->length - place);
     for (uint64_t at = 0; at < steps->length + more; at++)
         if (line[at] == '\n') line[at] = ' ';
@@ -90,59 +123,97 @@ static int solves_with(const written *scramble, const written *steps, uint64_t p
     return solves;
 }
 
-/* What makes one doubt an attempt that with a turn before a step, or after the last one, would be solved, if the text shows that turn there. */
-static void say_lost(text of, lines those, const written *scramble, const written *steps) {
-    const nissy_text_line *step[14] = {NULL};
-    uint64_t begins[13] = {0}, signs = 0;
-    size_t count = 0, ends = 0;
-    for (size_t at = 0; at < those.count; at++) {
-        if (those.first[at].kind != NISSY_STEP_LINE) continue;
-        if (++count > 12) return;
-        step[count] = those.first + at;
-        signs += (sign_before(of, step[count]) != NISSY_NO_PLACE) + (sign_behind(of, step[count]) != NISSY_NO_PLACE);
-    }
-    for (uint64_t at = 0, is_open = 0; at < steps->length; at++) {
-        is_open = steps->bytes[at] == '(' || (is_open && steps->bytes[at] != ')');
-        if ((steps->bytes[at] == '\n' && !is_open) || at + 1 == steps->length) begins[++ends > 12 ? 12 : ends] = at + 1;
-    }
-    if (ends != count || steps->length > NISSY_MOST_STEPS) return;
-    for (size_t number = 0; number <= count; number++)
-        for (int which = 0; which < 18; which++) {
-            const char turn[3] = {"UDRLFB"[which / 3], "\0002'"[which % 3], 0};
-            const nissy_text_line *const behind = step[number], *const before = step[number + 1];
-            const uint64_t said = first_of(said_in(of, behind, turn), said_in(of, before, turn));
-            const uint64_t sign = signs == 1 ? first_of(sign_behind(of, behind), sign_before(of, before)) : NISSY_NO_PLACE;
-            if (first_of(said, sign) == NISSY_NO_PLACE || !solves_with(scramble, steps, begins[number], turn)) continue;
-            say_text(DOUBTS[said != NISSY_NO_PLACE ? NISSY_INSERTION : NISSY_SIGNS]), say_place(of, first_of(said, sign));
-            return;
-        }
+/* Whether those of some lines that are of the solution solve a scramble. */
+static int is_solved_by(text of, lines those, const written *scramble) {
+    const written solution = moves_of(of, those, NISSY_OF_SOLUTION);
+    const int is_solved = nissy_check(scramble->bytes, scramble->length, solution.bytes, solution.length).solved;
+    let_go(solution);
+    return is_solved;
 }
 
-/* The place of the part of the steps that solves, if there is one, or of a turn with which all do. */
+/* Where another attempt stands in one that isn't solved: at a step with moves of 20 bytes or more that lines of the solution after it solve, as a
+ * scramble. The first twelve such steps are tried. */
+static void say_within(text of, lines those) {
+    size_t tried = 0;
+    for (size_t at = 0; at < those.count && tried < 12; at++) {
+        const nissy_text_line *const line = those.first + at;
+        const lines rest = {line + 1, those.count - at - 1};
+        if (line->kind != NISSY_STEP_LINE || line->comment - line->moves < 20) continue;
+        tried++;
+        const written scramble = moves_of(of, (lines){line, 1}, NISSY_OF_EACH_STEP);
+        const int is_another = has(rest, NISSY_STEP_LINE, 1) && is_solved_by(of, rest, &scramble);
+        let_go(scramble);
+        if (!is_another) continue;
+        say_text(DOUBTS[NISSY_ANOTHER_ATTEMPT]), say_place(of, line->moves);
+        return;
+    }
+}
+
+/* What makes one doubt an attempt that with a turn before a step, or after the last one, would be solved, if the text shows it there; whether
+ * something does. */
+static int say_lost(text of, const whole *all, const written *scramble, const written *steps) {
+    for (size_t number = 0; number <= all->count; number++)
+        for (int which = 0; which < 18; which++) {
+            const char turn[3] = {"UDRLFB"[which / 3], "\0002'"[which % 3], 0};
+            const nissy_text_line *const behind = all->step[number], *const before = all->step[number + 1];
+            const uint64_t said = first_of(said_in(of, behind, turn[0]), said_in(of, before, turn[0]));
+            const uint64_t sign = all->signs == 1 ? first_of(sign_behind(of, behind), sign_before(of, before)) : NISSY_NO_PLACE;
+            if (first_of(said, sign) == NISSY_NO_PLACE || !solves_with(scramble, steps, all->ends[number], turn)) continue;
+            say_text(DOUBTS[said != NISSY_NO_PLACE ? NISSY_INSERTION : NISSY_SIGNS]), say_place(of, first_of(said, sign));
+            return 1;
+        }
+    return 0;
+}
+
+/* Whether they would solve if the cube were held in one of the 23 other ways from a step on. */
+static int solves_turned(const written *scramble, const written *steps, uint64_t place) {
+    static const char *const tops[] = {"", "x", "x2", "x'", "z", "z'"}, *const sides[] = {"", "y", "y2", "y'"};
+    for (int which = 1; which < 24; which++) {
+        char rotation[8];
+        sprintf(rotation, "%s %s", tops[which / 4], sides[which % 4]);
+        if (solves_with(scramble, steps, place, rotation)) return 1;
+    }
+    return 0;
+}
+
+/* What makes one doubt an attempt of which no part solves, by all its steps; whether something does. */
+static int say_whole(text of, lines those, const written *scramble, const written *steps) {
+    whole all = {{NULL}, {0}, 0, 0};
+    if (!is_whole(of, those, steps, &all)) return 0;
+    if (say_lost(of, &all, scramble, steps)) return 1;
+    for (size_t number = 0; number < all.count; number++) {
+        if (!solves_turned(scramble, steps, all.ends[number])) continue;
+        say_text(DOUBTS[NISSY_INSERTION]), say_place(of, all.step[number + 1]->moves);
+        return 1;
+    }
+    return 0;
+}
+
+/* The place of the part of the steps that solves, if there is one, or of a turn or a rotation with which all do, or of another attempt. */
 static void say_part(text of, lines those, const written *scramble) {
     const written steps = moves_of(of, those, NISSY_OF_EACH_STEP);
     const nissy_part_answer part = nissy_solving_part(scramble->bytes, scramble->length, steps.bytes, steps.length);
     if (part.how)
         say_text("a part"), say_place(of, steps.places[part.begin]);
-    else
-        say_lost(of, those, scramble, &steps);
+    else if (!say_whole(of, those, scramble, &steps))
+        say_within(of, those);
     let_go(steps);
 }
 
-/* Where another attempt may begin after what solves, if there is such a place: at a line of some fifteen moves after which nothing is said. */
+/* Where another attempt may begin after what solves, if there is such a place: at a line of the solution, not its first one, with moves of 20
+ * bytes or more, before which all solves. The first twelve such lines are tried. */
 static int say_another(text of, lines those, const written *scramble) {
-    size_t at = 0, steps = 0;
-    for (; at < those.count; at++) {
+    size_t steps = 0, tried = 0;
+    for (size_t at = 0; at < those.count && tried < 12; at++) {
         const nissy_text_line *const line = those.first + at;
         if (line->kind != NISSY_STEP_LINE || !line->solution) continue;
-        if (steps++ && line->comment == line->end && line->comment - line->moves >= 40) break;
+        if (!steps++ || line->comment - line->moves < 20) continue;
+        tried++;
+        if (!is_solved_by(of, (lines){those.first, at}, scramble)) continue;
+        say_text(DOUBTS[NISSY_ANOTHER_ATTEMPT]), say_place(of, line->moves);
+        return 1;
     }
-    if (at == those.count) return 0;
-    const written before = moves_of(of, (lines){those.first, at}, NISSY_OF_SOLUTION);
-    const int is_another = nissy_check(scramble->bytes, scramble->length, before.bytes, before.length).solved;
-    if (is_another) say_text(DOUBTS[NISSY_ANOTHER_ATTEMPT]), say_place(of, those.first[at].moves);
-    let_go(before);
-    return is_another;
+    return 0;
 }
 
 /* The turns of a line, cleaned, each by its two bytes, if it can be read. */

@@ -28,7 +28,7 @@ static int is_doubt_of(const nissy_text_line *lines, uint64_t count, guarded scr
     if (it->doubt == NISSY_A_PART) return is_unsolved;
     for (at = 0; at < count && lines[at].moves != it->doubt_at; at++) {
     }
-    return it->doubt == NISSY_ANOTHER_ATTEMPT && !is_unsolved && at < count && lines[at].comment - lines[at].moves >= 40;
+    return it->doubt == NISSY_ANOTHER_ATTEMPT && at < count && lines[at].comment - lines[at].moves >= 20;
 }
 
 /* Whether a check is what nissy_check says of the moves of its lines, and its fault and its doubt stand where they say. */
@@ -121,6 +121,13 @@ static void checks_of_attempts(void) {
                       MERGED[] = "R U\nU' R' // end\nU2 F U' L D' U2 R2 F' U' L2 R' D2 F2 R2 U\nU' R2 F2 D2 R L2 U F R2 U2 D L' U F' U2 // end";
     has_check(WRAPPED, NULL, NONE, 0, (uint64_t[]){NO, 0, 0, 0, 5, NO, 34, NISSY_STEP_OR_SCRAMBLE, 1, 1, NISSY_DONE, 0, 1});
     has_check(MERGED, NULL, NONE, 0, (uint64_t[]){NO, 0, 0, 0, 4, NO, 17, NISSY_ANOTHER_ATTEMPT, 1, 1, NISSY_DONE, 0, 1});
+    /* the same of eight moves with a word after them, and if the first one isn't solved; but not of seven moves */
+    static const char SHORT[] = "R U\nU' R' // end\nU2 F U' L D' U2 R2 F' // next\nF R2 U2 D L' U F' U2 // end",
+                      UNSOLVED[] = "R U\nU' R // end\nU2 F U' L D' U2 R2 F' // next\nF R2 U2 D L' U F' U2 // end",
+                      SEVEN[] = "R U\nU' R // end\nF U' L D' U2 R2 F' // next\nF R2 U2 D L' U F' // end";
+    has_check(SHORT, NULL, NONE, 0, (uint64_t[]){NO, 0, 0, 0, 4, NO, 17, NISSY_ANOTHER_ATTEMPT, 1, 1, NISSY_DONE, 0, 1});
+    has_check(UNSOLVED, NULL, NONE, 0, (uint64_t[]){NO, 0, 0, 0, 4, NO, 16, NISSY_ANOTHER_ATTEMPT, 1, 1, NISSY_DONE, 0, 0});
+    has_check(SEVEN, NULL, NONE, 0, (uint64_t[]){NO, 0, 0, 0, 4, NO, NO, 0, 0, 1, NISSY_DONE, 0, 0});
     nissy_text_line lines[3];
     const nissy_text_answer sheet = nissy_text_lines((const uint8_t *)STEPS, sizeof STEPS - 1, lines, 3);
     const nissy_attempts_answer none =

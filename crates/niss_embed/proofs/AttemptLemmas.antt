@@ -1,14 +1,10 @@
--- The room for the moves of some lines, and what is told of those before another attempt.
-use Rattle.std.proofs.Common.{◌≡◌, ℕ, zero, suc, ◌-◌, ◌≤◌, Bool, true, false, cond, List, [], ◌∷◌, take, drop, slice_range, refl, subst, arith}
+-- The room for the moves of some lines.
+use Rattle.std.proofs.Common.{◌≡◌, ℕ, zero, suc, ◌-◌, ◌≤◌, Bool, true, false, cond, List, [], ◌∷◌, take, drop, slice_range, refl, arith}
 use Rattle.std.specs.List.{filter}
 use Rattle.niss_text.specs.declared.moves.MovesOf.{MovesOf}
 use Rattle.niss_text.specs.declared.moves.MovesOf.TheVariants.{Scramble, Steps, Solution, EachStep}
 use Rattle.niss_text.specs.Moves.{number_of_moves}
 use Rattle.niss_text.specs.declared.text_line.TextLine.{TextLine}
-use Rattle.niss_embed.specs.Another.{IsBeforeAnother}
-use Rattle.niss_embed.specs.Attempts.{AreWritten, IsBegunAgain, told_from}
-use Rattle.niss_embed.specs.LineFacts.{check_of}
-use Rattle.niss_embed.specs.declared.attempts.Doubt.{Doubt}
 unfoldable use Rattle.niss_text.specs.Moves.{most_bytes}
 
 kept_or_not : (b : Bool) (line : TextLine) (rest lines : List TextLine) → most_bytes rest ≤ most_bytes lines →
@@ -49,16 +45,3 @@ most_between lines begin end =
     let first = most_first (end - begin) (drop begin lines) in
     let after = most_after begin lines in
     omega (arith, first, after)
-
--- what is told by lines that are cut before another attempt
-pub begun_again : (text : List ℕ) (lines : List TextLine) (scramble bytes places : List ℕ) (told : Doubt) (count : ℕ) (before others : List TextLine) →
-    IsBeforeAnother lines count → before ≡ take count lines → others ≡ drop count lines → AreWritten text Solution before bytes places →
-    told ≡ told_from (check_of scramble bytes).solved others → IsBegunAgain text lines scramble told
-begun_again text lines scramble bytes places told count before others is_count is_before are_others written told_is = record {
-  count = count;
-  before = bytes;
-  places = places;
-  is_count = is_count;
-  are_before = subst (λ these. AreWritten text Solution these bytes places) is_before written;
-  told_is = subst (λ these. told ≡ told_from (check_of scramble bytes).solved these) are_others told_is;
-}

@@ -1,5 +1,5 @@
 -- Where moves bring corners: by one move, by moves in a row, by a rotation; and lines of which it is known.
-use Rattle.std.proofs.Common.{◌≡◌, ◌∙◌, ℕ, zero, suc, ◌+◌, ◌*◌, ◌%◌, ◌<◌, ◌==◌, true, List, [], ◌∷◌, ◌++◌, length, get_or, refl, sym, ap, subst, arith}
+use Rattle.std.proofs.Common.{◌≡◌, ◌∙◌, ℕ, zero, suc, ◌+◌, ◌*◌, ◌%◌, ◌<◌, ◌==◌, true, List, [], ◌∷◌, ◌++◌, length, get_or, refl, sym, ap, subst, arith, append_assoc}
 use Rattle.std.specs.Prelude.{slice_index, bit_xor, Option, None, Some, take}
 use Rattle.std.proofs.lemmas.Grind.{take_at_read}
 use Rattle.niss_moves.specs.Effects.{effect, moved_by, inverse, inverse_token}
@@ -19,7 +19,7 @@ use Rattle.niss_embed.specs.declared.corners.Corners.{Corners}
 use Rattle.niss_embed.specs.Corners.{Brings, side, home, corners_after, is_one_bit}
 unfoldable use Rattle.niss_embed.specs.Corners.{corner_of}
 
-corner_is_place : (q : Place) → is_corner q ≡ true → is_place q ≡ true
+pub corner_is_place : (q : Place) → is_corner q ≡ true → is_place q ≡ true
 corner_is_place q h = and_left _ _ (and_left _ _ (and_left _ _ h))
 
 move_fact : (t : Token) (q : Place) → is_place q ≡ true → is_corner q ≡ true →
@@ -175,6 +175,18 @@ both_is to next (suc (suc (suc (suc (suc (suc (suc (suc k)))))))) l = absurd (om
 pub two_apart : (to next : List ℕ) (s t : List Token) → Brings to s → Brings next t → IsRotated (s ++ t) →
     bit_xor (slice_index next (slice_index to 0 % 8)) (slice_index next (slice_index to 7 % 8)) ≡ 7
 two_apart to next s t a b w = (opposites_stay (both_to to next) (s ++ t) (by_both to next (both_to to next) s t (both_is to next) a b) w).0
+
+-- the same with moves between
+pub two_apart_by : (to by next : List ℕ) (s r t : List Token) → Brings to s → Brings by r → Brings next t → IsRotated (s ++ r ++ t) →
+    bit_xor (slice_index next (slice_index by (slice_index to 0 % 8) % 8)) (slice_index next (slice_index by (slice_index to 7 % 8) % 8)) ≡ 7
+two_apart_by to by next s r t a b c w =
+    let same : s ++ r ++ t ≡ s ++ (r ++ t) = simp append_assoc in
+    let one : slice_index (both_to by next) (slice_index to 0 % 8) ≡ slice_index next (slice_index by (slice_index to 0 % 8) % 8) =
+    both_is by next (slice_index to 0 % 8) (omega arith) in
+    let other : slice_index (both_to by next) (slice_index to 7 % 8) ≡ slice_index next (slice_index by (slice_index to 7 % 8) % 8) =
+    both_is by next (slice_index to 7 % 8) (omega arith) in
+    (λ i. bit_xor (sym one i) (sym other i))
+    ∙ two_apart to (both_to by next) s (r ++ t) a (by_both by next (both_to by next) r t (both_is by next) b c) (subst IsRotated same w)
 
 pub is_seven : (n : ℕ) → n ≡ 7 → (n == 7) ≡ true
 is_seven n e = ap (λ k. k == 7) e

@@ -13,6 +13,8 @@ pub mod BestLemmas
 pub mod SidesLemmas
 pub mod PartLemmas
 pub mod AttemptLemmas
+pub mod TriedLemmas
+pub mod InnerLemmas
 pub mod AttemptRuns
 pub mod KnownLemmas
 pub mod DeadLemmas
@@ -26,3 +28,5 @@ pub mod NearLemmas
 pub mod BesideLemmas
 pub mod LostLemmas
 pub mod ShownLemmas
+pub mod HoldLemmas
+pub mod TurnedLemmas

@@ -1,5 +1,5 @@
 -- Where a turn is said in a comment, of which turn something is told first, and how its bytes are read.
-use Rattle.std.proofs.Common.{◌≡◌, ◌∙◌, ◌⊎◌, ℕ, suc, ◌+◌, ◌-◌, ◌<◌, ◌≤◌, ◌==◌, Bool, false, cond, List, [], ◌∷◌, Option, None, Some, refl, map, ap, subst, inl, inr, arith}
+use Rattle.std.proofs.Common.{◌≡◌, ◌∙◌, ◌⊎◌, ℕ, suc, ◌+◌, ◌-◌, ◌<◌, ◌≤◌, ◌==◌, Bool, false, cond, List, [], ◌∷◌, Option, None, Some, Result, refl, map, ap, subst, inl, inr, arith}
 use Rattle.std.specs.Prelude.{find}
 use Rattle.std.specs.List.{range_with_len}
 use Rattle.std.specs.Option.{unwrap_or}
@@ -17,9 +17,13 @@ use Rattle.niss_embed.specs.declared.parts.PartAnswer.{PartAnswer}
 use Rattle.niss_embed.specs.declared.step_reading.Reading.TheVariants.{AsWritten}
 use Rattle.niss_embed.specs.Attempts.{IsPartOrLost, doubt_of_part, no_doubt}
 use Rattle.niss_embed.specs.DeadSteps.{Rests}
-use Rattle.niss_embed.specs.LostTurn.{IsLost}
 use Rattle.niss_embed.specs.Parts.{read_byte}
-use Rattle.niss_embed.specs.ShownTurn.{suffix_byte, turn_bytes}
+use Rattle.niss_embed.specs.LostTurn.{IsLostAt}
+use Rattle.niss_embed.specs.ShownTurn.{IsBorder, shown_at, shown_between, suffix_byte, turn_bytes}
+use Rattle.niss_embed.specs.declared.shown_turn.Border.{Border}
+use Rattle.niss_moves.specs.Line.{Moves}
+use Rattle.niss_moves.specs.declared.fault.ReadFault.{ReadFault}
+use Rattle.niss_embed.specs.WholeDoubt.{IsLostOrTurned}
 use Rattle.niss_embed.proofs.DeadLemmas.{rests_blank}
 
 -- the first place from one on is none that fails
@@ -29,17 +33,32 @@ find_passed test at end l is =
     let one : end - at ≡ suc (end - (at + 1)) = omega (arith, l) in
     ap (λ n. find test (range_with_len at n)) one ∙ ap (λ b. cond b (Some at) (find test (range_with_len (at + 1) (end - (at + 1))))) is
 
--- one case more of which nothing is told
-pub none_more : (Told : ℕ → Option Doubt → Type 0) (n : ℕ) → ((j : ℕ) → j < n → Told j None) → Told n None → (j : ℕ) → j < n + 1 → Told j None
-none_more Told n none not j less = by_order (cases_lt j n)
+-- what holds of all cases before one, and of that one
+pub one_more : (P : ℕ → Type 0) (n : ℕ) → ((j : ℕ) → j < n → P j) → P n → (j : ℕ) → j < n + 1 → P j
+one_more P n before here j less = by_order (cases_lt j n)
   where
-    by_order : (j < n) ⊎ (n ≤ j) → Told j None
-    by_order (inl before) = none j before
+    by_order : (j < n) ⊎ (n ≤ j) → P j
+    by_order (inl earlier) = before j earlier
     by_order (inr last) =
         let same : n ≡ j = omega (arith, less, last) in
-        subst (λ (k : ℕ). Told k None) same not
+        subst P same here
 
--- the doubt that a part solves, or else that a turn was lost
+-- one case more of which nothing is told
+pub none_more : (Told : ℕ → Option Doubt → Type 0) (n : ℕ) → ((j : ℕ) → j < n → Told j None) → Told n None → (j : ℕ) → j < n + 1 → Told j None
+none_more Told n none not = one_more (λ j. Told j None) n none not
+
+-- what is told at a border is told before the step of its number
+pub border_told : (scramble : Result Moves ReadFault) (steps bounds text : List ℕ) (lines : List TextLine) (k : ℕ) (border : Border) (told : Option Doubt) →
+    IsLostAt scramble steps bounds border.number (shown_between border.text.now border.behind border.before border.has_one_sign) told → IsBorder text lines k border →
+    IsLostAt scramble steps bounds k (shown_at text lines k) told
+border_told scramble steps bounds text lines k border told lost is =
+    subst (λ (n : ℕ). IsLostAt scramble steps bounds n (shown_at text lines k) told) is.number_is
+    (subst (λ (shows : Turn → Option Doubt). IsLostAt scramble steps bounds border.number shows told) shows lost)
+  where
+    shows : shown_between border.text.now border.behind border.before border.has_one_sign ≡ shown_at text lines k
+    shows = λ i. shown_between (is.text_is i) (is.behind_is i) (is.before_is i) (is.one_is i)
+
+-- the doubt that a part solves, or else that a turn was lost, or the cube turned
 pub part_told : (part : PartAnswer) (scramble steps places text : List ℕ) (lines : List TextLine) (told : Doubt) → (part.how ≡ 0 → ⊥) → told ≡ doubt_of_part part places →
     IsPartOrLost (part.how == 0) part scramble steps places text lines told
 part_told part scramble steps places text lines told some is = elim (eqb_tells part.how 0) [
@@ -48,7 +67,7 @@ part_told part scramble steps places text lines told some is = elim (eqb_tells p
 ]
 
 pub lost_told : (part : PartAnswer) (scramble steps places text : List ℕ) (lines : List TextLine) (told none : Doubt) (lost : Option Doubt) → part.how ≡ 0 →
-    IsLost scramble steps text lines lost → told ≡ unwrap_or lost none → none ≡ no_doubt → IsPartOrLost (part.how == 0) part scramble steps places text lines told
+    IsLostOrTurned scramble steps text lines lost → told ≡ unwrap_or lost none → none ≡ no_doubt → IsPartOrLost (part.how == 0) part scramble steps places text lines told
 lost_told part scramble steps places text lines told none lost nothing is told_is none_is =
     rw nothing (lost, is, told_is ∙ ap (unwrap_or lost) none_is)
 

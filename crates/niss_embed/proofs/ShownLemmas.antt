@@ -1,47 +1,64 @@
--- At a place of a text no turn stands if none may begin there.
-use Rattle.std.proofs.Common.{◌≡◌, ◌∙◌, ℕ, ◌+◌, ◌-◌, ◌==◌, Bool, true, false, cond, not, ◌&&◌, ◌||◌, List, refl, sym, ap, inl, inr}
-use Rattle.std.specs.Prelude.{slice_index}
-use Rattle.std.proofs.lemmas.Bool.{and_right}
-use Rattle.std.proofs.lemmas.Bool.Decides.{eqb_tells}
-use Rattle.niss_moves.specs.Facelets.{face_letter}
+-- At a place of a text no face stands if none may begin there.
+use Rattle.std.proofs.Common.{◌≡◌, ℕ, zero, suc, Bool, true, false, List, [], ◌∷◌, drop, refl, ap, arith, ◌+◌}
+use Rattle.std.specs.Prelude.{◌||◌, slice_get, slice_index}
+use Rattle.std.proofs.lemmas.Bool.{and_left, and_right}
 use Rattle.niss_moves.specs.declared.turn.Face.{Face}
 use Rattle.niss_moves.specs.declared.turn.Face.TheVariants.{U, D, R, L, F, B}
-use Rattle.niss_moves.specs.declared.turn.Power.{Power}
-use Rattle.niss_moves.specs.declared.turn.Power.TheVariants.{Quarter, Half, Counter}
-use Rattle.niss_moves.specs.declared.turn.Turn.{Turn}
-use Rattle.niss_embed.specs.ShownTurn.{is_face_letter, is_of_word, is_suffix, suffix_byte, turn_width}
+use Rattle.niss_text.specs.declared.text_line.TextLine.{TextLine}
+use Rattle.niss_embed.specs.ShownTurn.{is_apart, is_face_letter, is_letter_of, step_at, step_behind}
 unfoldable use Rattle.niss_embed.specs.ShownTurn.{stands_at}
 
-abbrev begins : (text : List ℕ) (at : ℕ) → Bool
-begins text at =
-    is_face_letter (slice_index text at) && (not (is_of_word (slice_index text (at - 1)))
-    && (is_suffix (slice_index text (at + 1)) || not (is_of_word (slice_index text (at + 1)))))
+-- whether the letter of one of the faces stands there
+abbrev one_of : (Face → Bool) → Bool
+one_of is = is U || (is D || (is R || (is L || (is F || is B))))
 
-face_letters : (f : Face) → is_face_letter (face_letter f) ≡ true
-face_letters U = refl
-face_letters D = refl
-face_letters R = refl
-face_letters L = refl
-face_letters F = refl
-face_letters B = refl
+or_first : (a b : Bool) → (a || b) ≡ false → a ≡ false
+or_first false b e = refl
+or_first true b e = e
 
--- by whether the letter fits, and what stands before and after it
-by_bytes : (p : Power) (n : ℕ) (fits word suffix : Bool) (word_at : ℕ → Bool) → (not word && (suffix || not (word_at 1))) ≡ false →
-    ((fits && (cond suffix n 32 == suffix_byte p)) && not (word || word_at (turn_width p))) ≡ false
-by_bytes p n false word suffix word_at none = refl
-by_bytes p n true true suffix word_at none = and_right (cond suffix n 32 == suffix_byte p) false refl
-by_bytes p n true false true word_at none = absurd (cc none)
-by_bytes Quarter n true false false word_at none = ap (λ b. b) none
-by_bytes Half n true false false word_at none = refl
-by_bytes Counter n true false false word_at none = refl
+or_later : (a b : Bool) → (a || b) ≡ false → b ≡ false
+or_later false b e = e
+or_later true b e = absurd (cc e)
 
-pub none_begins : (text : List ℕ) (turn : Turn) (at : ℕ) → begins text at ≡ false → stands_at text turn at ≡ false
+-- what is known of the letters after the first ones
+not_u : (is : Face → Bool) → one_of is ≡ false → (is D || (is R || (is L || (is F || is B)))) ≡ false
+not_u is none = or_later (is U) (is D || (is R || (is L || (is F || is B)))) none
+
+not_d : (is : Face → Bool) → one_of is ≡ false → (is R || (is L || (is F || is B))) ≡ false
+not_d is none = or_later (is D) (is R || (is L || (is F || is B))) (not_u is none)
+
+not_r : (is : Face → Bool) → one_of is ≡ false → (is L || (is F || is B)) ≡ false
+not_r is none = or_later (is R) (is L || (is F || is B)) (not_d is none)
+
+not_l : (is : Face → Bool) → one_of is ≡ false → (is F || is B) ≡ false
+not_l is none = or_later (is L) (is F || is B) (not_r is none)
+
+none_is : (is : Face → Bool) → one_of is ≡ false → (face : Face) → is face ≡ false
+none_is is none U = or_first (is U) (is D || (is R || (is L || (is F || is B)))) none
+none_is is none D = or_first (is D) (is R || (is L || (is F || is B))) (not_u is none)
+none_is is none R = or_first (is R) (is L || (is F || is B)) (not_d is none)
+none_is is none L = or_first (is L) (is F || is B) (not_r is none)
+none_is is none F = or_first (is F) (is B) (not_l is none)
+none_is is none B = or_later (is F) (is B) (not_l is none)
+
+pub none_lettered : (text : List ℕ) (at : ℕ) → is_face_letter (slice_index text at) ≡ false → (face : Face) → stands_at text face at ≡ false
 unfolding stands_at
-none_begins text turn at none = elim (eqb_tells (slice_index text at) (face_letter turn.face)) [
-  | inl w ↦
-      let letter : is_face_letter (slice_index text at) ≡ true = ap is_face_letter w.1 ∙ face_letters turn.face in
-      by_bytes turn.power (slice_index text (at + 1)) (slice_index text at == face_letter turn.face) (is_of_word (slice_index text (at - 1)))
-      (is_suffix (slice_index text (at + 1))) (λ k. is_of_word (slice_index text (at + k)))
-      (ap (λ b. b && (not (is_of_word (slice_index text (at - 1))) && (is_suffix (slice_index text (at + 1)) || not (is_of_word (slice_index text (at + 1)))))) (sym letter) ∙ none)
-  | inr w ↦ rw w.0 refl
-]
+none_lettered text at none face =
+    and_left (is_letter_of face (slice_index text at)) (is_apart text at) (none_is (λ f. is_letter_of f (slice_index text at)) none face)
+
+pub none_apart : (text : List ℕ) (at : ℕ) → is_apart text at ≡ false → (face : Face) → stands_at text face at ≡ false
+unfolding stands_at
+none_apart text at none face = and_right (is_letter_of face (slice_index text at)) (is_apart text at) none
+
+-- the first of what is left after some
+pub first_dropped : {X : Type 0} (xs : List X) (k : ℕ) → slice_get (drop k xs) 0 ≡ slice_get xs k
+first_dropped [] zero = refl
+first_dropped [] (suc k) = refl
+first_dropped (x ∷ xs) zero = refl
+first_dropped (x ∷ xs) (suc k) = first_dropped xs k
+
+-- the step behind which the next one stands
+pub behind_next : (lines : List TextLine) (k : ℕ) → step_behind lines (k + 1) ≡ step_at lines k
+behind_next lines k =
+    let one : k + 1 ≡ suc k = omega arith in
+    ap (step_behind lines) one

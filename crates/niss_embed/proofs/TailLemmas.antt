@@ -264,18 +264,13 @@ plain_tail text bounds tails step none up are l =
     plain_line text bounds (length bounds - 1 - step) step up (omega (arith, l, end)) ∙ ap (steps_line text bounds step) end in
     subst (λ (bytes : List ℕ). IsTail bytes (get_or tails step none).to) same (are step none (omega arith) l)
 
-not_both : (b : Bool) → b ≡ true → b ≡ false → ⊥
+pub not_both : (b : Bool) → b ≡ true → b ≡ false → ⊥
 not_both true t f = cc f
 not_both false t f = cc t
 
--- A test that each rotation passes, and these moves don't, refuses their line.
-pub tail_refused : IsRead → HasOneReading → IsTested → (scramble : Moves) (bytes to : List ℕ) (passes : Bool) → IsTail bytes to →
-    ((s : List Token) → Brings to s → IsRotated (joined_moves scramble ++ s) → passes ≡ true) → passes ≡ false →
-    solves_line (Ok scramble) (read_line bytes) ≡ false
-tail_refused is_read one tested scramble bytes to passes (inl line) test not_passed =
-    line_refused is_read one tested scramble bytes line.normal line.bracketed line.spells
-    (λ w. not_both passes (test (line.normal ++ inverse line.bracketed) line.brings w) not_passed)
-tail_refused is_read one tested scramble bytes to passes (inr ends) test not_passed = by_result (read_line bytes) refl
+-- A line that can't be read doesn't solve.
+pub ends_refused : IsRead → (scramble : Moves) (bytes : List ℕ) → EndsNone bytes ⊎ IsDead bytes → solves_line (Ok scramble) (read_line bytes) ≡ false
+ends_refused is_read scramble bytes ends = by_result (read_line bytes) refl
   where
     faulty : (m : Moves) → read_line bytes ≡ Ok m → EndsNone bytes ⊎ IsDead bytes → ⊥
     faulty m e (inl none) = none [] m.normal m.bracketed refl ((is_read bytes m).0 e).0
@@ -284,3 +279,12 @@ tail_refused is_read one tested scramble bytes to passes (inr ends) test not_pas
     by_result : (r : Result Moves ReadFault) → read_line bytes ≡ r → solves_line (Ok scramble) r ≡ false
     by_result (Err f) e = refl
     by_result (Ok m) e = absurd (faulty m e ends)
+
+-- A test that each rotation passes, and these moves don't, refuses their line.
+pub tail_refused : IsRead → HasOneReading → IsTested → (scramble : Moves) (bytes to : List ℕ) (passes : Bool) → IsTail bytes to →
+    ((s : List Token) → Brings to s → IsRotated (joined_moves scramble ++ s) → passes ≡ true) → passes ≡ false →
+    solves_line (Ok scramble) (read_line bytes) ≡ false
+tail_refused is_read one tested scramble bytes to passes (inl line) test not_passed =
+    line_refused is_read one tested scramble bytes line.normal line.bracketed line.spells
+    (λ w. not_both passes (test (line.normal ++ inverse line.bracketed) line.brings w) not_passed)
+tail_refused is_read one tested scramble bytes to passes (inr ends) test not_passed = ends_refused is_read scramble bytes ends

@@ -1,21 +1,58 @@
--- Lines of a solution that may be of another attempt.
-use Rattle.std.specs.Prelude.{◌≡◌, ℕ, ◌+◌, ◌-◌, ◌<◌, ◌≤◌, ◌==◌, ◌&&◌, nat_le, Bool, true, false, List, length, take, slice_range}
-use Rattle.std.specs.List.{list_any}
+-- Lines in which another attempt may begin, and the first of them in which one does.
+use Rattle.std.specs.Prelude.{◌≡◌, ℕ, ◌+◌, ◌-◌, ◌<◌, ◌&&◌, nat_le, Bool, true, false, Option, None, Some, List, [], ◌∷◌, length, take, drop, slice_range}
+use Rattle.std.specs.List.{filter, list_any, range_with_len}
 use Rattle.niss_text.specs.Moves.{is_wanted}
 use Rattle.niss_text.specs.declared.moves.MovesOf.TheVariants.{Solution}
 use Rattle.niss_text.specs.declared.text_line.TextLine.{TextLine}
+use Rattle.niss_embed.specs.Doubts.{AreWritten, doubt, no_doubt}
+use Rattle.niss_embed.specs.LineFacts.{check_of}
+use Rattle.niss_embed.specs.declared.attempts.Doubt.{Doubt}
 
--- a step of the solution that is as long as a scramble, of fifteen moves at least, and after which nothing is said
+-- The moves of a line have twenty bytes at least, as those of a short scramble.
+abbrev pub is_long : TextLine → Bool
+is_long line = nat_le 20 (line.comment - line.moves)
+
+-- such a step of the solution, whatever is said after it
 abbrev pub is_long_step : TextLine → Bool
-is_long_step line =
-    is_wanted Solution line && ((line.comment == line.end) && nat_le 40 (line.comment - line.moves))
+is_long_step line = is_wanted Solution line && is_long line
 
--- another attempt may begin in the line of a number: it is such a step, and one of the solution stands before it
+-- Another attempt may begin in the line of a number: it is such a step, and one of the solution stands before it.
 abbrev pub may_begin : List TextLine → ℕ → Bool
 may_begin lines k = list_any is_long_step (slice_range lines k (k + 1)) && list_any (is_wanted Solution) (take k lines)
 
--- so many lines stand before the first one in which another attempt may begin
-pub record IsBeforeAnother (lines : List TextLine) (count : ℕ) : Type 0 where
-  pub within : count ≤ length lines
-  pub begins : count < length lines → may_begin lines count ≡ true
-  pub first : (k : ℕ) → k < count → may_begin lines k ≡ false
+-- how many numbers before one are so
+abbrev pub count_before : (ℕ → Bool) → ℕ → ℕ
+count_before is_so k = length (filter is_so (range_with_len 0 k))
+
+-- A number is tried: it is one of the first twelve that are so.
+abbrev pub IsTried : (ℕ → Bool) → ℕ → Type 0
+IsTried is_so k = (is_so k ≡ true) × (count_before is_so k < 12)
+
+-- Of the numbers below a bound that are tried this is the first that holds, if one does.
+abbrev pub IsFirstTried : (bound : ℕ) → (is_so : ℕ → Bool) → (Holds : ℕ → Bool → Type 0) → Option ℕ → Type 0
+IsFirstTried bound is_so Holds (Some k) =
+    (k < bound) × IsTried is_so k × Holds k true × ((j : ℕ) → j < k → IsTried is_so j → Holds j false)
+IsFirstTried bound is_so Holds None = (j : ℕ) → j < bound → IsTried is_so j → Holds j false
+
+-- The lines of the solution among some lines solve a scramble, or they don't.
+pub record IsSolvedBy (text : List ℕ) (lines : List TextLine) (scramble : List ℕ) (solves : Bool) : Type 0 where
+  pub solution : List ℕ
+  pub places : List ℕ
+  pub is_solution : AreWritten text Solution lines solution places
+  pub solves_is : solves ≡ (check_of scramble solution).solved
+
+-- the doubt that another attempt begins in the first of some lines
+abbrev pub begun_in : List TextLine → Doubt
+begun_in [] = no_doubt
+begun_in (line ∷ lines) = doubt 13 line.moves
+
+-- the same in the line of a number, if there is one
+abbrev pub begun_at : List TextLine → Option ℕ → Doubt
+begun_at lines None = no_doubt
+begun_at lines (Some k) = begun_in (drop k lines)
+
+-- What is solved is in doubt by the first line in which another attempt may begin, and before which all solves; or by none.
+pub record IsBegunAgain (text : List ℕ) (lines : List TextLine) (scramble : List ℕ) (told : Doubt) : Type 0 where
+  pub first : Option ℕ
+  pub is_first : IsFirstTried (length lines) (may_begin lines) (λ k solves. IsSolvedBy text (take k lines) scramble solves) first
+  pub told_is : told ≡ begun_at lines first

@@ -1,16 +1,17 @@
 -- What is told of attempts that were checked.
-use Rattle.std.specs.Prelude.{◌≡◌, ℕ, zero, suc, ◌+◌, ◌-◌, ◌<◌, ◌==◌, if◌then◌else◌, nat_lt, Bool, true, false, not, ◌&&◌, ⊤, ◌≤◌, ◌↔◌, IsTrue, Ok, min, Option, List, [], ◌∷◌, length, take, drop, get_or, slice_range}
+use Rattle.std.specs.Prelude.{◌≡◌, ℕ, zero, suc, ◌+◌, ◌-◌, ◌<◌, ◌==◌, if◌then◌else◌, nat_lt, Bool, true, false, not, ◌&&◌, ⊤, ◌≤◌, ◌↔◌, IsTrue, Ok, min, Option, List, [], ◌∷◌, length, drop, get_or, slice_range}
 use Rattle.std.specs.List.{list_any, range_with_len}
 use Rattle.std.specs.Option.{unwrap_or}
 use Rattle.niss_text.specs.Moves.{is_wanted}
 use Rattle.niss_text.specs.declared.moves.MovesOf.TheVariants.{Scramble, Solution, EachStep}
 use Rattle.niss_text.specs.declared.text_line.TextLine.{TextLine}
 pub use Rattle.niss_embed.specs.Doubts.{AreWritten, doubt, no_doubt, no_place, or_else}
-use Rattle.niss_embed.specs.Another.{IsBeforeAnother}
+use Rattle.niss_embed.specs.Another.{IsBegunAgain}
 use Rattle.niss_embed.specs.Beside.{IsDoubtBeside, is_long_other}
+use Rattle.niss_embed.specs.InnerAttempt.{IsBegunWithin}
 use Rattle.niss_embed.specs.LineFacts.{check_of}
-use Rattle.niss_embed.specs.LostTurn.{IsLost}
 use Rattle.niss_embed.specs.Parts.{TellsPart}
+use Rattle.niss_embed.specs.WholeDoubt.{IsLostOrTurned}
 use Rattle.niss_embed.specs.declared.attempt_checks.AttemptCheck.{AttemptCheck}
 use Rattle.niss_embed.specs.declared.judged.Judged.{Judged}
 use Rattle.niss_embed.specs.declared.attempts.Outcome.{Outcome}
@@ -56,13 +57,13 @@ outcome_of has_solution check =
 abbrev pub doubt_of_part : PartAnswer → (places : List ℕ) → Doubt
 doubt_of_part part places = if part.how == 0 then no_doubt else doubt 9 (get_or places part.begin no_place)
 
--- The doubt is that a part of the steps solves, or if none does, that a turn was lost.
+-- The doubt is that a part of the steps solves, or if none does, that a turn was lost, or the cube turned.
 abbrev pub IsPartOrLost : (is_none : Bool) → PartAnswer → (scramble steps places text : List ℕ) (lines : List TextLine) (told : Doubt) → Type 0
 IsPartOrLost false part scramble steps places text lines told = told ≡ doubt_of_part part places
 IsPartOrLost true part scramble steps places text lines told =
-    (lost : Option Doubt) × IsLost scramble steps text lines lost × (told ≡ unwrap_or lost no_doubt)
+    (whole : Option Doubt) × IsLostOrTurned scramble steps text lines whole × (told ≡ unwrap_or whole no_doubt)
 
--- A part of the steps solves, or all of them with a turn, or none, and that is the doubt.
+-- A part of the steps solves, or all of them with a turn or a rotation, or none, and that is the doubt.
 pub record IsDoubtOfSteps (text : List ℕ) (lines : List TextLine) (scramble : List ℕ) (told : Doubt) : Type 0 where
   pub steps : List ℕ
   pub places : List ℕ
@@ -71,25 +72,21 @@ pub record IsDoubtOfSteps (text : List ℕ) (lines : List TextLine) (scramble : 
   pub tells : TellsPart scramble steps part
   pub told_is : IsPartOrLost (part.how == 0) part scramble steps places text lines told
 
+-- The doubt is that of the steps, or if there is none, that another attempt stands in them.
+abbrev pub IsStepsOrWithin : (is_none : Bool) → (of_steps : Doubt) → (text : List ℕ) (lines : List TextLine) (told : Doubt) → Type 0
+IsStepsOrWithin false of_steps text lines told = told ≡ of_steps
+IsStepsOrWithin true of_steps text lines told = IsBegunWithin text lines told
+
+-- What isn't solved, nor is its scramble, is in doubt by its steps so.
+pub record IsDoubtWithin (text : List ℕ) (lines : List TextLine) (scramble : List ℕ) (told : Doubt) : Type 0 where
+  pub of_steps : Doubt
+  pub is_of_steps : IsDoubtOfSteps text lines scramble of_steps
+  pub told_is : IsStepsOrWithin (of_steps.reason == 0) of_steps text lines told
+
 -- What isn't solved is in doubt by its scramble if that is solved by itself, else by its steps.
 abbrev pub IsDoubtOfUnsolved : (is_solved : Bool) → (text : List ℕ) (lines : List TextLine) (scramble places : List ℕ) (told : Doubt) → Type 0
 IsDoubtOfUnsolved true text lines scramble places told = told ≡ doubt 1 (get_or places 0 no_place)
-IsDoubtOfUnsolved false text lines scramble places told = IsDoubtOfSteps text lines scramble told
-
--- what is told if lines solve, or not, before these
-abbrev pub told_from : (solves : Bool) → List TextLine → Doubt
-told_from true (line ∷ lines) = doubt 13 line.moves
-told_from true [] = no_doubt
-told_from false lines = no_doubt
-
--- What is solved is so already before the first line in which another attempt may begin, or not.
-pub record IsBegunAgain (text : List ℕ) (lines : List TextLine) (scramble : List ℕ) (told : Doubt) : Type 0 where
-  pub count : ℕ
-  pub before : List ℕ
-  pub places : List ℕ
-  pub is_count : IsBeforeAnother lines count
-  pub are_before : AreWritten text Solution (take count lines) before places
-  pub told_is : told ≡ told_from (check_of scramble before).solved (drop count lines)
+IsDoubtOfUnsolved false text lines scramble places told = IsDoubtWithin text lines scramble told
 
 -- What is solved is in doubt if its scramble is by itself, or what stands before another attempt.
 abbrev pub IsDoubtOfSolved : (is_solved : Bool) → (text : List ℕ) (lines : List TextLine) (scramble places : List ℕ) (told : Doubt) → Type 0
@@ -110,13 +107,13 @@ abbrev pub told_of_solved : (found read : Doubt) → Told
 told_of_solved found read = told (or_else found read) (not (found.reason == 0))
 
 -- Of what is solved a line may be of a scramble; or else another attempt may begin; or else steps make one doubt it that
--- aren't of its solution.
+-- aren't of its solution. Only then these are looked at.
 pub record IsDoubtThoughSolved (text : List ℕ) (lines : List TextLine) (scramble places : List ℕ) (read : Doubt) (it : Told) : Type 0 where
   pub another : Doubt
   pub is_another : IsDoubtOfSolved (is_solved scramble places) text lines scramble places another
   pub beside : Doubt
-  pub is_beside : IsDoubtBeside (list_any is_long_other lines) text lines scramble beside
-  pub it_is : it ≡ told_of_solved (or_else (first_stray lines) (or_else another beside)) read
+  pub is_beside : (or_else (first_stray lines) another).reason ≡ 0 → IsDoubtBeside (list_any is_long_other lines) text lines scramble beside
+  pub it_is : it ≡ told_of_solved (or_else (or_else (first_stray lines) another) beside) read
 
 -- The doubt is that of the reading, or if there is none, one of what isn't solved; of what is solved one that counts, if
 -- there is one. None counts of what is at fault.

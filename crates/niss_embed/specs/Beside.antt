@@ -18,7 +18,7 @@ use Rattle.niss_embed.specs.declared.attempts.Doubt.{Doubt}
 use Rattle.niss_embed.specs.declared.beside.Beside.{Beside}
 use Rattle.niss_embed.specs.declared.beside.Seen.{Seen}
 
--- a step that isn't of the solution, and is as long as a scramble, of fifteen moves at least
+-- a step that isn't of the solution, and is as long as a scramble: its moves have forty bytes at least
 abbrev pub is_long_other : TextLine → Bool
 is_long_other line = (is_wanted EachStep line && (line.is_solution == 0)) && nat_le 40 (line.comment - line.moves)
 

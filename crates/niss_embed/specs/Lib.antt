@@ -11,8 +11,12 @@ pub mod BestWays
 pub mod ListedSides
 pub mod Parts
 pub mod ShownTurn
+pub mod Between
 pub mod LostTurn
+pub mod TurnedCube
+pub mod WholeDoubt
 pub mod Another
+pub mod InnerAttempt
 pub mod Doubts
 pub mod Ends
 pub mod Beside

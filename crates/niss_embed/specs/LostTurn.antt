@@ -1,24 +1,18 @@
 -- A turn that was lost between two steps of an attempt, as its text shows it there.
-use Rattle.std.specs.Prelude.{◌≡◌, ℕ, ◌<◌, ◌==◌, nat_lt, if◌then◌else◌, Bool, true, false, not, ◌||◌, Option, None, Some, Result, List, ◌++◌, length, get_or}
+use Rattle.std.specs.Prelude.{◌≡◌, ℕ, ◌<◌, if◌then◌else◌, Bool, Option, None, Some, Result, List, length, get_or}
 use Rattle.niss_moves.specs.Canonical.{turn_order}
 use Rattle.niss_moves.specs.Line.{Moves}
 use Rattle.niss_moves.specs.declared.turn.Face.TheVariants.{U}
 use Rattle.niss_moves.specs.declared.turn.Power.TheVariants.{Quarter}
 use Rattle.niss_moves.specs.declared.turn.Turn.{Turn}
-use Rattle.niss_moves.specs.Reader.{read_line}
 use Rattle.niss_moves.specs.declared.fault.ReadFault.{ReadFault}
-use Rattle.niss_shell.specs.Words.{most_bytes}
 use Rattle.niss_text.specs.declared.text_line.TextLine.{TextLine}
-use Rattle.niss_embed.specs.Parts.{bounds_of, most_step_bytes, number_of_steps, solves_line, steps_line}
-use Rattle.niss_embed.specs.ShownTurn.{shown_at, steps_among, turn_bytes}
+use Rattle.niss_embed.specs.Between.{solves_between}
+use Rattle.niss_embed.specs.ShownTurn.{shown_at, turn_bytes}
 use Rattle.niss_embed.specs.declared.attempts.Doubt.{Doubt}
 
--- the line of all steps, with a turn before the step of a number, or after the last one
-abbrev pub line_with_turn : (steps bounds : List ℕ) → ℕ → Turn → List ℕ
-line_with_turn steps bounds k t = steps_line steps bounds 0 k ++ turn_bytes t ++ steps_line steps bounds k (number_of_steps bounds)
-
 abbrev pub solves_with_turn : Result Moves ReadFault → (steps bounds : List ℕ) → ℕ → Turn → Bool
-solves_with_turn scramble steps bounds k t = solves_line scramble (read_line (line_with_turn steps bounds k t))
+solves_with_turn scramble steps bounds k t = solves_between scramble steps bounds k (turn_bytes t)
 
 -- what is shown counts if the turn solves
 abbrev pub shown_if : Bool → Option Doubt → Option Doubt
@@ -33,7 +27,7 @@ abbrev pub IsFirstTold : ℕ → (ℕ → Option Doubt → Type 0) → Option Do
 IsFirstTold count Told (Some it) = (k : ℕ) × (k < count) × Told k (Some it) × ((j : ℕ) → j < k → Told j None)
 IsFirstTold count Told None = (j : ℕ) → j < count → Told j None
 
--- the doubt of the first of the turns, in turn order, that solves before a step, or after the last one, if it is shown
+-- the doubt of the first of the turns, in turn order, that solves before a step, or after the last one, and is shown there
 abbrev pub IsLostAt : Result Moves ReadFault → (steps bounds : List ℕ) → ℕ → (Turn → Option Doubt) → Option Doubt → Type 0
 IsLostAt scramble steps bounds k shows told =
     IsFirstTold 18 (λ i it. it ≡ shown_if (solves_with_turn scramble steps bounds k (turn_numbered i)) (shows (turn_numbered i))) told
@@ -42,16 +36,3 @@ IsLostAt scramble steps bounds k shows told =
 abbrev pub IsLostIn : Result Moves ReadFault → (steps bounds text : List ℕ) → List TextLine → Option Doubt → Type 0
 IsLostIn scramble steps bounds text lines told =
     IsFirstTold (length bounds) (λ k it. IsLostAt scramble steps bounds k (shown_at text lines k) it) told
-
--- The steps aren't a line each of the text, or too many, or they or the scramble have too many bytes.
-abbrev pub is_beyond : (scramble steps : List ℕ) → List TextLine → Bool
-is_beyond scramble steps lines =
-    not (number_of_steps (bounds_of steps) == length (steps_among lines)) || (nat_lt most_bytes (length scramble) || nat_lt most_step_bytes (length steps))
-
-abbrev pub TellsLost : (is_beyond : Bool) → (scramble steps text : List ℕ) → List TextLine → Option Doubt → Type 0
-TellsLost true scramble steps text lines told = told ≡ None
-TellsLost false scramble steps text lines told = IsLostIn (read_line scramble) steps (bounds_of steps) text lines told
-
--- The doubt that a turn was lost beside a step of an attempt, which the text shows there, or none.
-abbrev pub IsLost : (scramble steps text : List ℕ) → List TextLine → Option Doubt → Type 0
-IsLost scramble steps text lines told = TellsLost (is_beyond scramble steps lines) scramble steps text lines told

@@ -1,8 +1,10 @@
 -- A turn that the text of an attempt shows beside one of its steps, though it isn't among their moves.
-use Rattle.std.specs.Prelude.{ℕ, zero, suc, ◌+◌, ◌-◌, ◌==◌, nat_lt, nat_le, min, if◌then◌else◌, Bool, true, false, not, ◌&&◌, ◌||◌, Option, None, Some, List, [], ◌∷◌, ◌++◌, length, flat_map, filter, find, slice_get, slice_index, slice_range}
+use Rattle.std.specs.Prelude.{◌≡◌, ℕ, zero, suc, ◌+◌, ◌-◌, ◌==◌, nat_lt, min, if◌then◌else◌, Bool, true, false, not, ◌&&◌, ◌||◌, Option, None, Some, List, [], ◌∷◌, ◌++◌, length, drop, flat_map, filter, find, slice_get, slice_index, slice_range}
 use Rattle.std.specs.List.{range_with_len}
-use Rattle.std.specs.Option.{option_or, option_to_list}
+use Rattle.std.specs.Option.{option_map, option_or, option_to_list}
 use Rattle.niss_moves.specs.Facelets.{face_letter}
+use Rattle.niss_moves.specs.declared.turn.Face.{Face}
+use Rattle.niss_moves.specs.declared.turn.Face.TheVariants.{U, D, R, L, F, B}
 use Rattle.niss_moves.specs.declared.turn.Power.{Power}
 use Rattle.niss_moves.specs.declared.turn.Power.TheVariants.{Quarter, Half, Counter}
 use Rattle.niss_moves.specs.declared.turn.Turn.{Turn}
@@ -11,69 +13,97 @@ use Rattle.niss_text.specs.Signs.{is_digit, is_within}
 use Rattle.niss_text.specs.declared.moves.MovesOf.TheVariants.{EachStep}
 use Rattle.niss_text.specs.declared.text_line.TextLine.{TextLine}
 use Rattle.niss_embed.specs.declared.attempts.Doubt.{Doubt}
+use Rattle.niss_embed.specs.declared.shown_turn.Border.{Border}
 
--- what stands after the letter of a turn, or a blank, and how many bytes the turn has
+-- what stands after the letter of a turn, or a blank
 abbrev pub suffix_byte : Power → ℕ
 suffix_byte Quarter = 32
 suffix_byte Half = 50
 suffix_byte Counter = 39
 
-abbrev pub turn_width : Power → ℕ
-turn_width Quarter = 1
-turn_width Half = 2
-turn_width Counter = 2
-
 -- a turn between blanks
 abbrev pub turn_bytes : Turn → List ℕ
 turn_bytes t = 32 ∷ face_letter t.face ∷ suffix_byte t.power ∷ 32 ∷ []
 
--- the letters of faces: U, D, R, L, F, B; and what may stand after one in a turn: 2, or an apostrophe
+-- the letter of a face, capital or small, and that of some face
+abbrev pub is_letter_of : Face → ℕ → Bool
+is_letter_of f b = (b == face_letter f) || (b == face_letter f + 32)
+
 abbrev pub is_face_letter : ℕ → Bool
-is_face_letter b = (b == 85) || ((b == 68) || ((b == 82) || ((b == 76) || ((b == 70) || (b == 66)))))
+is_face_letter b =
+    is_letter_of U b || (is_letter_of D b || (is_letter_of R b || (is_letter_of L b || (is_letter_of F b || is_letter_of B b))))
 
-abbrev pub is_suffix : ℕ → Bool
-is_suffix b = (b == 50) || (b == 39)
-
--- what a byte after the letter of a turn says of it: 2, an apostrophe, or as little as a blank
-abbrev pub suffix_of : ℕ → ℕ
-suffix_of b = if is_suffix b then b else 32
-
--- A byte is of a word: a letter, a digit, an apostrophe, beyond ASCII, or one of `:;<=`, which make a face with a letter.
+-- A byte is of a word: a letter or a digit of ASCII, or one of `:;<=`, which make a face with a letter.
 abbrev pub is_of_word : ℕ → Bool
-is_of_word b = is_within 48 61 b || (is_within 65 90 b || (is_within 97 122 b || ((b == 39) || nat_le 128 b)))
+is_of_word b = is_within 48 61 b || (is_within 65 90 b || is_within 97 122 b)
 
--- The turn stands at a place of a text as a word of its own.
-unfoldable pub stands_at : List ℕ → Turn → ℕ → Bool
-stands_at text t at =
-    ((slice_index text at == face_letter t.face) && (suffix_of (slice_index text (at + 1)) == suffix_byte t.power))
-    && not (is_of_word (slice_index text (at - 1)) || is_of_word (slice_index text (at + turn_width t.power)))
+-- A letter before such a byte is of a word too, unless that is a 2 or a 3, which may be of a turn.
+abbrev pub goes_on : ℕ → Bool
+goes_on b = is_of_word b && not ((b == 50) || (b == 51))
 
--- the places of a line's comment, as far as it goes in a text, and the first of them at which a turn stands
+-- A letter at a place of a text isn't within a word.
+abbrev pub is_apart : List ℕ → ℕ → Bool
+is_apart text at = not (is_of_word (slice_index text (at - 1)) || goes_on (slice_index text (at + 1)))
+
+-- The letter of a face stands at a place of a text, and isn't within a word.
+unfoldable pub stands_at : List ℕ → Face → ℕ → Bool
+stands_at text f at = is_letter_of f (slice_index text at) && is_apart text at
+
+-- the places of a line's comment, as far as it goes in a text, and the first of them at which a face stands
 abbrev pub comment_places : List ℕ → TextLine → List ℕ
 comment_places text line = range_with_len line.comment (min line.end (length text) - line.comment)
 
-abbrev pub said_in : List ℕ → TextLine → Turn → Option ℕ
-said_in text line t = find (stands_at text t) (comment_places text line)
+abbrev pub said_in : List ℕ → TextLine → Face → Option ℕ
+said_in text line f = find (stands_at text f) (comment_places text line)
 
--- signs that look like letters
+-- signs that look like letters, or stand for one
 abbrev pub is_stray : ℕ → Bool
-is_stray b = (b == 33) || ((b == 63) || (b == 124))
+is_stray b = (b == 33) || ((b == 38) || ((b == 63) || (b == 124)))
 
--- The place of a sign behind the moves of a line, if what follows these begins with one, or with a digit.
-abbrev pub sign_behind : List ℕ → TextLine → Option ℕ
-sign_behind text line =
-    let b = slice_index text line.comment in
-    if nat_lt line.comment line.end && (is_stray b || is_digit b) then Some line.comment else None
+abbrev pub is_blank : ℕ → Bool
+is_blank b = (b == 9) || (b == 32)
+
+-- How many blanks end a stretch of a text, if it has another byte too, and the place of the last one that isn't a blank.
+abbrev pub blanks_before : List ℕ → (begin end : ℕ) → Option ℕ
+blanks_before text begin end = find (λ n. not (is_blank (slice_index text (end - 1 - n)))) (range_with_len 0 (end - begin))
+
+abbrev pub last_place : List ℕ → (begin end : ℕ) → Option ℕ
+last_place text begin end = option_map (λ n. end - 1 - n) (blanks_before text begin end)
+
+-- a place, if what is said of it is true
+abbrev pub place_if : (ℕ → Bool) → Option ℕ → Option ℕ
+place_if test None = None
+place_if test (Some at) = if test at then Some at else None
 
 -- brackets around nothing
 abbrev pub is_empty_bracket : List ℕ → Bool
 is_empty_bracket bytes = (slice_index bytes 0 == 40) && (slice_index bytes 1 == 41)
 
--- The place of a sign before the moves of a line, if its label begins with one, or the moves with brackets around nothing.
+-- The moves of a line end in brackets around nothing, the second of which stands at this place, and begin before these.
+abbrev pub ends_bracket : List ℕ → TextLine → ℕ → Bool
+ends_bracket text line at = nat_lt line.moves (at - 1) && is_empty_bracket (slice_range text (at - 1) (at + 1))
+
+abbrev pub bracket_behind : List ℕ → TextLine → Option ℕ
+bracket_behind text line = option_map (λ at. at - 1) (place_if (ends_bracket text line) (last_place text line.moves line.comment))
+
+-- The place of a sign behind the moves of a line: a stray one or a digit with which what follows these begins, or brackets
+-- around nothing at their end.
+abbrev pub sign_after : List ℕ → TextLine → Option ℕ
+sign_after text line =
+    let b = slice_index text line.comment in
+    if nat_lt line.comment line.end && (is_stray b || is_digit b) then Some line.comment else None
+
+abbrev pub sign_behind : List ℕ → TextLine → Option ℕ
+sign_behind text line = option_or (sign_after text line) (bracket_behind text line)
+
+-- The place of a sign before the moves of a line: a stray one, between which and these only blanks stand, on the label's
+-- side; or brackets around nothing at their beginning.
+abbrev pub bracket_before : List ℕ → TextLine → Option ℕ
+bracket_before text line = if is_empty_bracket (slice_range text line.moves line.comment) then Some line.moves else None
+
 abbrev pub sign_before : List ℕ → TextLine → Option ℕ
 sign_before text line =
-    if nat_lt line.label_begin line.label_end && is_stray (slice_index text line.label_begin) then Some line.label_begin
-    else (if is_empty_bracket (slice_range text line.moves line.comment) then Some line.moves else None)
+    option_or (place_if (λ at. is_stray (slice_index text at)) (last_place text line.label_begin line.moves)) (bracket_before text line)
 
 -- the steps among lines, the one of a number, and the one behind which a step of that number stands
 abbrev pub steps_among : List TextLine → List TextLine
@@ -97,9 +127,9 @@ abbrev pub has_one_sign : List ℕ → List TextLine → Bool
 has_one_sign text lines = length (signs_among text lines) == 1
 
 -- the same of a line, if there is one
-abbrev pub said_in_step : List ℕ → Option TextLine → Turn → Option ℕ
-said_in_step text None t = None
-said_in_step text (Some line) t = said_in text line t
+abbrev pub said_in_step : List ℕ → Option TextLine → Face → Option ℕ
+said_in_step text None f = None
+said_in_step text (Some line) f = said_in text line f
 
 abbrev pub sign_behind_step : List ℕ → Option TextLine → Option ℕ
 sign_behind_step text None = None
@@ -120,12 +150,21 @@ shown_by (Some at) sign = Some (record { reason = 8; at = at })
 shown_by None (Some at) = Some (record { reason = 12; at = at })
 shown_by None None = None
 
--- The doubt of a turn that the text shows between two steps: in the comment of the first, else of the second, else by the
--- only sign.
+-- The doubt of a turn that the text shows between two steps: by its face in the comment of the first, else of the second,
+-- else by the only sign.
 abbrev pub shown_between : List ℕ → (behind before : Option TextLine) → (is_one : Bool) → Turn → Option Doubt
 shown_between text behind before is_one t =
-    shown_by (option_or (said_in_step text behind t) (said_in_step text before t)) (sign_between text behind before is_one)
+    shown_by (option_or (said_in_step text behind t.face) (said_in_step text before t.face)) (sign_between text behind before is_one)
 
 -- the same before the step of a number, or after the last one
 abbrev pub shown_at : List ℕ → List TextLine → ℕ → Turn → Option Doubt
 shown_at text lines k t = shown_between text (step_behind lines k) (step_at lines k) (has_one_sign text lines) t
+
+-- This is what stands before the step of a number, or after the last one, with the lines after that step.
+pub record IsBorder (text : List ℕ) (lines : List TextLine) (k : ℕ) (border : Border) : Type 0 where
+  pub text_is : border.text.now ≡ text
+  pub number_is : border.number ≡ k
+  pub behind_is : border.behind ≡ step_behind lines k
+  pub before_is : border.before ≡ step_at lines k
+  pub one_is : border.has_one_sign ≡ has_one_sign text lines
+  pub rest_is : steps_among border.rest.now ≡ drop (k + 1) (steps_among lines)

@@ -1,19 +1,24 @@
-//! Lines of a solution that may be of another attempt.
-ghost use Rattle.std.specs.Prelude.{◌≡◌, ◌<◌, length};
-ghost use Rattle.niss_embed.specs.Another.{IsBeforeAnother, is_long_step, may_begin};
+//! Lines of a solution that may be of another attempt, if what stands before them solves.
+ghost use Rattle.std.specs.Prelude.{◌≡◌, ◌≤◌, ◌<◌, ◌&&◌, IfSome, IsSome, length, nat_le, nat_lt};
+ghost use Rattle.niss_text.specs.Moves.{most_bytes};
+ghost use Rattle.niss_embed.specs.Another.{IsBegunAgain, IsSolvedBy, is_long, may_begin};
 
+use crate::attempts::{Doubt, OF_SOLUTION, moves_of};
+use crate::line_facts::check_line;
 use crate::step_lines::{has_solution, is_of_solution};
 use niss_text::TextLine;
 
-/// How many bytes a scramble has at least, on one line: those of fifteen moves.
-pub(crate) const SCRAMBLE_BYTES: usize = 40;
+/// How many bytes the moves of a line have at least in which another attempt may begin.
+const LEAST_BYTES: usize = 20;
 
-/// Whether a line is a step of the solution that is as long as a scramble, and after which nothing is said.
-fn is_long_step(line: &TextLine) -> bool
-    ensures { result ≡ is_long_step line.now }
+/// How many lines are tried.
+pub(crate) const MOST_TRIED: usize = 12;
+
+/// Whether the moves of a line are that long.
+pub(crate) fn is_long(line: &TextLine) -> bool
+    ensures { result ≡ is_long line.now }
 {
-    let is_long = line.comment.saturating_sub(line.moves) >= SCRAMBLE_BYTES;
-    is_of_solution(line) && (line.comment == line.end && is_long)
+    line.comment.saturating_sub(line.moves) >= LEAST_BYTES
 }
 
 /// Whether another attempt may begin in a line after one of the solution.
@@ -21,17 +26,53 @@ fn may_begin(lines: &[TextLine], at: usize) -> bool
     requires { at < length lines.now }
     ensures { result ≡ may_begin lines.now at }
 {
-    is_long_step(&lines[at]) && has_solution(&lines[..at])
+    let line = &lines[at];
+    (is_of_solution(line) && is_long(line)) && has_solution(&lines[..at])
 }
 
-/// How many lines stand before the first one in which another attempt may begin.
-pub(crate) fn lines_before_another(lines: &[TextLine]) -> usize
-    ensures { IsBeforeAnother lines.now result }
+/// Whether such a line is tried, after so many that are.
+fn is_tried(tried: usize, lines: &[TextLine], at: usize) -> bool
+    requires { at < length lines.now }
+    ensures { result ≡ (nat_lt tried 12 && may_begin lines.now at) }
 {
+    tried < MOST_TRIED && may_begin(lines, at)
+}
+
+/// Whether the lines of the solution among some lines solve a scramble.
+pub(crate) fn is_solved_by(
+    text: &[u8],
+    lines: &[TextLine],
+    scramble: &[u8],
+    out: &mut [u8],
+    places: &mut [u64],
+) -> Option<bool>
+    ensures is { IfSome result (λ solves. IsSolvedBy text.now lines.now scramble.now solves) }
+    ensures room { most_bytes lines.now ≤ length out.old → most_bytes lines.now ≤ length places.old → IsSome result }
+{
+    let count = moves_of(text, lines, OF_SOLUTION, out, places)?;
+    Some(check_line(scramble, &out[..count]).solved)
+}
+
+/// What makes one doubt an attempt that is solved: that it is so before a line in which another one may begin, the first such.
+pub(crate) fn doubt_of_another(
+    text: &[u8],
+    lines: &[TextLine],
+    scramble: &[u8],
+    out: &mut [u8],
+    places: &mut [u64],
+) -> Option<Doubt>
+    ensures are { IfSome result (λ told. IsBegunAgain text.now lines.now scramble.now told) }
+    ensures room { most_bytes lines.now ≤ length out.old → most_bytes lines.now ≤ length places.old → IsSome result }
+{
+    let mut tried = 0;
     for at in 0..lines.len() {
-        if may_begin(lines, at) {
-            return at;
+        if !is_tried(tried, lines, at) {
+            continue;
+        }
+        tried += 1;
+        if is_solved_by(text, &lines[..at], scramble, out, places)? {
+            return Some(Doubt::begun_in(&lines[at..]));
         }
     }
-    lines.len()
+    Some(Doubt::none())
 }

@@ -4,18 +4,20 @@ ghost use Rattle.std.specs.Prelude.{◌≡◌, ◌≤◌, ◌<◌, ◌*◌, ◌=
 ghost use Rattle.niss_text.specs.Moves.{number_of_moves, most_bytes};
 ghost use Rattle.niss_text.specs.declared.moves.MovesOf.{MovesOf};
 ghost use Rattle.niss_embed.specs.Attempts.{AreWritten, IsChecked, IsDoubt, IsOwn, doubt, is_solved, no_doubt, no_place};
-ghost use Rattle.niss_embed.specs.Attempts.{first_doubt, fault_place, outcome_of, doubt_of_part, told_from, IsBegunAgain, IsDoubtOfSteps};
+ghost use Rattle.niss_embed.specs.Another.{begun_in};
+ghost use Rattle.niss_embed.specs.Attempts.{first_doubt, fault_place, outcome_of, doubt_of_part, IsDoubtOfSteps};
 ghost use Rattle.niss_embed.specs.Attempts.{IsDoubtOfSolved, IsDoubtOfUnsolved, IsDoubtThoughSolved, first_stray, or_else};
 
-use crate::another::lines_before_another;
+use crate::another::doubt_of_another;
 use crate::beside::doubt_beside;
 use crate::fact_answers::CheckAnswer;
+use crate::inner_attempt::doubt_within;
 use crate::judged::Judged;
 use crate::line_facts::check_line;
-use crate::lost_turn::lost_turn;
 use crate::parts::{PartAnswer, solving_part};
 use crate::step_lines::has_solution;
 use crate::told::Told;
+use crate::whole_doubt::doubt_of_whole;
 use niss_text::{TextLine, text_moves};
 
 /// Whose moves of some lines are wanted, and of which kinds these are, by the numbers of `niss_text`.
@@ -119,16 +121,16 @@ impl Doubt {
         }
     }
 
-    /// The doubt that another attempt begins in the first of some lines, if what stands before it solves.
-    fn of_another(lines: &[TextLine], is_solved: bool) -> Doubt
-        ensures { result ≡ told_from is_solved lines.now }
+    /// The doubt that another attempt begins in the first of some lines.
+    pub(crate) fn begun_in(lines: &[TextLine]) -> Doubt
+        ensures { result ≡ begun_in lines.now }
     {
         match lines.first() {
-            Some(line) if is_solved => Doubt {
+            Some(line) => Doubt {
                 reason: ANOTHER_ATTEMPT,
                 at: line.moves,
             },
-            _ => Doubt::none(),
+            None => Doubt::none(),
         }
     }
 
@@ -205,7 +207,7 @@ pub(crate) fn moves_of(
 }
 
 /// What makes one doubt an attempt that isn't solved: that a part of its steps solves, or that they do with a turn that was
-/// lost, and the text shows it.
+/// lost, and the text shows it, or with a rotation of the whole cube.
 fn doubt_of_steps(
     text: &[u8],
     lines: &[TextLine],
@@ -221,25 +223,7 @@ fn doubt_of_steps(
     if part.how != 0 {
         return Some(Doubt::of_part(&part, &places[..count]));
     }
-    Some(lost_turn(scramble, &out[..count], text, lines).unwrap_or(Doubt::none()))
-}
-
-/// What makes one doubt an attempt that is solved: that it is so before a line in which another one may begin.
-#[tactic(auto, using(crate::proofs::AttemptLemmas::most_first))]
-fn doubt_of_another(
-    text: &[u8],
-    lines: &[TextLine],
-    scramble: &[u8],
-    out: &mut [u8],
-    places: &mut [u64],
-) -> Option<Doubt>
-    ensures are { IfSome result (λ told. IsBegunAgain text.now lines.now scramble.now told) }
-    ensures room { most_bytes lines.now ≤ length out.old → most_bytes lines.now ≤ length places.old → IsSome result }
-{
-    let (before, another) = lines.split_at(lines_before_another(lines));
-    let count = moves_of(text, before, OF_SOLUTION, out, places)?;
-    let check = check_line(scramble, &out[..count]);
-    Some(Doubt::of_another(another, check.solved))
+    Some(doubt_of_whole(scramble, &out[..count], text, lines).unwrap_or(Doubt::none()))
 }
 
 impl Given<'_> {
@@ -272,7 +256,8 @@ impl Given<'_> {
         doubt_of_another(text, lines, self.scramble, out, places)
     }
 
-    /// What makes one doubt the attempt if it isn't solved.
+    /// What makes one doubt the attempt if it isn't solved: that its scramble is so by itself; else what does of its steps;
+    /// else that another attempt stands in these.
     fn doubt_of_unsolved(
         &self,
         text: &[u8],
@@ -290,7 +275,11 @@ impl Given<'_> {
                 at: place_at(self.places, 0),
             });
         }
-        doubt_of_steps(text, lines, self.scramble, out, places)
+        let of_steps = doubt_of_steps(text, lines, self.scramble, out, places)?;
+        if of_steps.reason != 0 {
+            return Some(of_steps);
+        }
+        doubt_within(text, lines, out, places)
     }
 
     /// What makes one doubt the attempt though it is solved: that a line may be of a scramble, or that another attempt may
@@ -306,9 +295,12 @@ impl Given<'_> {
         ensures room { most_bytes lines.now ≤ length out.old → most_bytes lines.now ≤ length places.old → IsSome result }
     {
         let another = self.doubt_of_solved(text, lines, out, places)?;
+        let found = first_stray(lines).or_else(another);
+        if found.reason != 0 {
+            return Some(Told::of_solved(found, self.doubt));
+        }
         let beside = doubt_beside(text, lines, self.scramble, out, places)?;
-        let found = first_stray(lines).or_else(another.or_else(beside));
-        Some(Told::of_solved(found, self.doubt))
+        Some(Told::of_solved(beside, self.doubt))
     }
 
     /// What makes one doubt the attempt, by its reading and how its check ended.

@@ -12,7 +12,6 @@ ghost use Rattle.niss_embed.specs.Beside.{AreNear, IsDoubtBeside, IsFound, IsOfL
 ghost use Rattle.niss_embed.specs.Doubts.{doubt, or_else};
 ghost use Rattle.niss_embed.specs.LineFacts.{IsReadAs};
 
-use crate::another::SCRAMBLE_BYTES;
 use crate::attempts::{ANOTHER_ATTEMPT, Doubt, OF_EACH_STEP, OF_SOLUTION, moves_of};
 use crate::line_texts::read_by;
 use crate::near::are_near;
@@ -22,6 +21,9 @@ use niss_moves::{Faces, LineReader, Niss, Turn, cleanup, unniss};
 use niss_shell::{MOST_BYTES, solves};
 use niss_text::TextLine;
 use std::slice::from_ref;
+
+/// How many bytes the moves of a line have at least that are as long as a scramble.
+const SCRAMBLE_BYTES: usize = 40;
 
 /// The doubt that there are several solutions.
 const SEVERAL_SOLUTIONS: u8 = 2;

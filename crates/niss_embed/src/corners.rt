@@ -104,6 +104,16 @@ impl Corners {
         one ^ other == 7
     }
 
+    /// The same with moves between.
+    pub fn two_stay_by(&self, between: &Corners, next: &Corners) -> bool
+        ensures { (s r t : List Token) → Brings self.now.to s → Brings between.now.to r → Brings next.now.to t → IsRotated (s ++ r ++ t) →
+            IsTrue result }
+    {
+        let one = between.to[(self.to[0] % 8) as usize];
+        let other = between.to[(self.to[7] % 8) as usize];
+        next.to[(one % 8) as usize] ^ next.to[(other % 8) as usize] == 7
+    }
+
     /// By moves.
     #[inline(never)]
     pub fn after(tokens: &[Token]) -> Corners

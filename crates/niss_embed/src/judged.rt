@@ -15,9 +15,10 @@ pub struct Judged {
     pub doubt_at: usize,
     /// What makes one doubt it, by its number. If it isn't solved: what its lines say; else 1 if its scramble by itself is, 9
     /// if a part of its steps solves, 8 or 12 if they do with a turn that the text shows beside one, in a comment or by a
-    /// sign, or 10 if its solution solves another known scramble. If it is solved: 11 if a line of it may be of a scramble;
-    /// else 13 if it is solved before its steps, or before another attempt may begin, or if two long steps beside the
-    /// solution may be one; else 2 if such a step is the solution but in one place; else what its lines say. 0 for nothing.
+    /// sign, 8 if they do once the cube is turned before one, 13 if a step of it is a scramble that those after it solve, or
+    /// 10 if its solution solves another known scramble. If it is solved: 11 if a line of it may be of a scramble; else 13 if
+    /// it is solved before its steps, or before another attempt may begin, or if two long steps beside the solution may be
+    /// one; else 2 if such a step is the solution but in one place; else what its lines say. 0 for nothing.
     pub doubt: u8,
     /// Whether the doubt counts: nothing is at fault, and no solution solves, or the doubt is more than what its lines say, or
     /// 11.

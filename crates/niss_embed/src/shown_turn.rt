@@ -1,26 +1,28 @@
 //! A turn that the text of an attempt shows beside one of its steps, though it isn't among their moves.
-ghost use Rattle.std.specs.Prelude.{◌≡◌, ◌<◌, ◌≤◌, ◌==◌, ◌&&◌, ◌||◌, None, false, length};
+ghost use Rattle.std.specs.Prelude.{◌≡◌, ◌<◌, ◌≤◌, ◌+◌, ◌==◌, ◌&&◌, ◌||◌, ℕ, List, IfSome, None, false, drop, length};
 ghost use Rattle.std.specs.Option.{option_to_list};
+ghost use Rattle.niss_moves.specs.declared.turn.Face.{Face};
 ghost use Rattle.niss_moves.specs.declared.turn.Turn.{Turn};
-ghost use Rattle.niss_embed.specs.ShownTurn.{said_in, is_stray, sign_behind, is_empty_bracket, sign_before};
-ghost use Rattle.niss_embed.specs.ShownTurn.{steps_among, step_at, step_behind, has_one_sign, signs_of, said_in_step, sign_behind_step, sign_before_step, sign_between, shown_by, shown_between};
+ghost use Rattle.niss_text.specs.declared.text_line.TextLine.{TextLine};
+ghost use Rattle.niss_embed.specs.ShownTurn.{said_in, is_blank, is_stray, last_place, ends_bracket, sign_after, sign_behind, is_empty_bracket, bracket_behind, bracket_before, sign_before};
+ghost use Rattle.niss_embed.specs.ShownTurn.{IsBorder, steps_among, step_at, has_one_sign, signs_of, said_in_step, sign_behind_step, sign_before_step, sign_between, shown_by, shown_between};
 
 use crate::attempts::Doubt;
 use crate::step_lines::is_step;
 use crate::stretch::stretch;
 use crate::turn_words::{byte_at, is_within, may_begin, stands_at};
-use niss_moves::Turn;
+use niss_moves::{Face, Turn};
 use niss_text::TextLine;
 
 /// The doubt that moves belong there.
-const MOVES_BELONG: u8 = 8;
+pub(crate) const MOVES_BELONG: u8 = 8;
 
 /// The doubt that a sign stands for one.
 const SIGNS: u8 = 12;
 
-/// Whether some turn may stand in the comment of a line.
+/// Whether some face may stand in the comment of a line.
 fn may_say(text: &[u8], line: &TextLine) -> bool
-    ensures { result ≡ false → (turn : Turn) → said_in text.now line.now turn ≡ None }
+    ensures { result ≡ false → (face : Face) → said_in text.now line.now face ≡ None }
 {
     let end = line.end.min(text.len());
     for at in line.comment..end {
@@ -31,36 +33,45 @@ fn may_say(text: &[u8], line: &TextLine) -> bool
     false
 }
 
-/// Where a turn first stands in the comment of a line.
-fn said_in(text: &[u8], line: &TextLine, turn: Turn) -> Option<usize>
-    ensures { result ≡ said_in text.now line.now turn }
+/// Where a face first stands in the comment of a line.
+fn said_in(text: &[u8], line: &TextLine, face: Face) -> Option<usize>
+    ensures { result ≡ said_in text.now line.now face }
 {
     let end = line.end.min(text.len());
     for at in line.comment..end {
-        if stands_at(text, turn, at) {
+        if stands_at(text, face, at) {
             return Some(at);
         }
     }
     None
 }
 
-/// Whether a byte is a sign that looks like a letter.
+/// Whether a byte is a sign that looks like a letter, or stands for one.
 fn is_stray(byte: u8) -> bool
     ensures { result ≡ is_stray byte }
 {
-    byte == b'!' || (byte == b'?' || byte == b'|')
+    byte == b'!' || (byte == b'&' || (byte == b'?' || byte == b'|'))
 }
 
-/// Where a sign stands behind the moves of a line, if what follows these begins with one, or with a digit.
-fn sign_behind(text: &[u8], line: &TextLine) -> Option<usize>
-    ensures { result ≡ sign_behind text.now line.now }
+/// Whether a byte is a blank.
+fn is_blank(byte: u8) -> bool
+    ensures { result ≡ is_blank byte }
 {
-    let byte = byte_at(text, line.comment);
-    if line.comment < line.end && (is_stray(byte) || is_within(b'0', b'9', byte)) {
-        Some(line.comment)
-    } else {
-        None
+    byte == b'\t' || byte == b' '
+}
+
+/// Where the last byte stands between two places of a text that isn't a blank.
+fn last_place(text: &[u8], begin: usize, end: usize) -> Option<usize>
+    ensures is { result ≡ last_place text.now begin end }
+    ensures within { IfSome result (λ at. (begin ≤ at) × (at < end)) }
+{
+    for blanks in 0..end.saturating_sub(begin) {
+        let at = end - 1 - blanks;
+        if !is_blank(byte_at(text, at)) {
+            return Some(at);
+        }
     }
+    None
 }
 
 /// Whether bytes begin with brackets around nothing.
@@ -70,17 +81,67 @@ fn is_empty_bracket(bytes: &[u8]) -> bool
     byte_at(bytes, 0) == b'(' && byte_at(bytes, 1) == b')'
 }
 
-/// Where a sign stands before the moves of a line, if its label begins with one, or the moves with brackets around nothing.
-fn sign_before(text: &[u8], line: &TextLine) -> Option<usize>
-    ensures { result ≡ sign_before text.now line.now }
+/// Whether the moves of a line end in brackets around nothing, the second of which stands at a place, and begin before
+/// these.
+fn ends_bracket(text: &[u8], line: &TextLine, at: usize) -> bool
+    requires { at < 18446744073709551615 }
+    ensures { result ≡ ends_bracket text.now line.now at }
 {
-    if line.label_begin < line.label_end && is_stray(byte_at(text, line.label_begin)) {
-        Some(line.label_begin)
-    } else if is_empty_bracket(stretch(text, line.moves, line.comment)) {
+    let first = at.saturating_sub(1);
+    line.moves < first && is_empty_bracket(stretch(text, first, at + 1))
+}
+
+/// Where what follows the moves of a line begins, if it does so with a stray sign or a digit.
+fn sign_after(text: &[u8], line: &TextLine) -> Option<usize>
+    ensures { result ≡ sign_after text.now line.now }
+{
+    let byte = byte_at(text, line.comment);
+    if line.comment < line.end && (is_stray(byte) || is_within(b'0', b'9', byte)) {
+        Some(line.comment)
+    } else {
+        None
+    }
+}
+
+/// Where brackets around nothing stand with which the moves of a line end, if they don't begin with them.
+fn bracket_behind(text: &[u8], line: &TextLine) -> Option<usize>
+    ensures { result ≡ bracket_behind text.now line.now }
+{
+    match last_place(text, line.moves, line.comment) {
+        Some(at) if ends_bracket(text, line, at) => Some(at.saturating_sub(1)),
+        _ => None,
+    }
+}
+
+/// Where a sign stands behind the moves of a line: a stray one or a digit right after them, or brackets around nothing at
+/// their end.
+fn sign_behind(text: &[u8], line: &TextLine) -> Option<usize>
+    ensures { result ≡ sign_behind text.now line.now }
+{
+    sign_after(text, line).or(bracket_behind(text, line))
+}
+
+/// Where the moves of a line begin, if they do so with brackets around nothing.
+fn bracket_before(text: &[u8], line: &TextLine) -> Option<usize>
+    ensures { result ≡ bracket_before text.now line.now }
+{
+    if is_empty_bracket(stretch(text, line.moves, line.comment)) {
         Some(line.moves)
     } else {
         None
     }
+}
+
+/// Where a sign stands before the moves of a line: a stray one right before them, or brackets around nothing with which they
+/// begin.
+fn sign_before(text: &[u8], line: &TextLine) -> Option<usize>
+    ensures { result ≡ sign_before text.now line.now }
+{
+    let stray = match last_place(text, line.label_begin, line.moves) {
+        Some(at) if is_stray(byte_at(text, at)) => Some(at),
+        _ => None,
+    };
+    stray.or(bracket_before(text, line))
 }
 
 /// One if there is something, and else 0.
@@ -137,7 +198,7 @@ pub fn count_steps(lines: &[TextLine]) -> usize
 }
 
 /// The step of a number among lines, if there are so many.
-fn step_at(lines: &[TextLine], number: usize) -> Option<TextLine>
+pub fn step_at(lines: &[TextLine], number: usize) -> Option<TextLine>
     ensures { result ≡ step_at lines.now number }
 {
     let mut left = number;
@@ -155,15 +216,19 @@ fn step_at(lines: &[TextLine], number: usize) -> Option<TextLine>
     None
 }
 
-/// The step behind which that of a number stands.
-fn step_behind(lines: &[TextLine], number: usize) -> Option<TextLine>
-    ensures { result ≡ step_behind lines.now number }
+/// The first step among lines, if there is one, and what stands after it.
+fn first_step(lines: &[TextLine]) -> (Option<TextLine>, &[TextLine])
+    ensures first { result.0 ≡ step_at lines.now 0 }
+    ensures after { steps_among result.1.now ≡ drop 1 (steps_among lines.now) }
 {
-    if number == 0 {
-        None
-    } else {
-        step_at(lines, number - 1)
+    let mut rest = lines;
+    while let Some((line, after)) = rest.split_first() {
+        rest = after;
+        if is_step(line) {
+            return (Some(*line), rest);
+        }
     }
+    (None, rest)
 }
 
 /// The doubt of what a comment has, or a sign stands for.
@@ -191,39 +256,54 @@ pub struct Border<'a> {
     pub before: Option<TextLine>,
     /// Whether the text has a single sign beside its steps.
     pub has_one_sign: bool,
+    /// The lines after the second step.
+    pub rest: &'a [TextLine],
 }
 
 impl<'a> Border<'a> {
-    /// What stands before the step of a number, or after the last one.
-    pub fn of(text: &'a [u8], lines: &[TextLine], number: usize) -> Border<'a>
-        ensures text { result.text.now ≡ text.now }
-        ensures number { result.number ≡ number }
-        ensures behind { result.behind ≡ step_behind lines.now number }
-        ensures before { result.before ≡ step_at lines.now number }
-        ensures one { result.has_one_sign ≡ has_one_sign text.now lines.now }
+    /// What stands before the first step.
+    pub fn begin(text: &'a [u8], lines: &'a [TextLine]) -> Border<'a>
+        ensures { IsBorder text.now lines.now 0 result }
     {
+        let (before, rest) = first_step(lines);
         Border {
             text,
-            number,
-            behind: step_behind(lines, number),
-            before: step_at(lines, number),
+            number: 0,
+            behind: None,
+            before,
             has_one_sign: has_one_sign(text, lines),
+            rest,
         }
     }
 
-    /// Where the comment of a step has a turn.
-    fn said_in(&self, step: &Option<TextLine>, turn: Turn) -> Option<usize>
-        ensures { result ≡ said_in_step self.now.text.now step.now turn }
+    /// What stands after the next step.
+    pub fn next(&self) -> Border<'a>
+        requires { self.now.number < 13 }
+        ensures { (text : List ℕ) (lines : List TextLine) (number : ℕ) → IsBorder text lines number self.now → IsBorder text lines (number + 1) result }
+    {
+        let (before, rest) = first_step(self.rest);
+        Border {
+            number: self.number + 1,
+            behind: self.before,
+            before,
+            rest,
+            ..*self
+        }
+    }
+
+    /// Where the comment of a step has a face.
+    fn said_in(&self, step: &Option<TextLine>, face: Face) -> Option<usize>
+        ensures { result ≡ said_in_step self.now.text.now step.now face }
     {
         match step {
-            Some(line) => said_in(self.text, line, turn),
+            Some(line) => said_in(self.text, line, face),
             None => None,
         }
     }
 
-    /// Whether the comment of a step may have some turn.
+    /// Whether the comment of a step may have some face.
     fn may_say(&self, step: &Option<TextLine>) -> bool
-        ensures { result ≡ false → (turn : Turn) → said_in_step self.now.text.now step.now turn ≡ None }
+        ensures { result ≡ false → (face : Face) → said_in_step self.now.text.now step.now face ≡ None }
     {
         match step {
             Some(line) => may_say(self.text, line),
@@ -275,8 +355,8 @@ impl<'a> Border<'a> {
         ensures { result ≡ shown_between self.now.text.now self.now.behind self.now.before self.now.has_one_sign turn }
     {
         let said = self
-            .said_in(&self.behind, turn)
-            .or(self.said_in(&self.before, turn));
+            .said_in(&self.behind, turn.face)
+            .or(self.said_in(&self.before, turn.face));
         shown_by(said, self.sign())
     }
 }

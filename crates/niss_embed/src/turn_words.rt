@@ -1,15 +1,16 @@
-//! Turns that stand in a text as words of their own.
+//! Turns as bytes, and the letters of their faces that stand in a text outside words.
 ghost use Rattle.std.specs.Prelude.{◌≡◌, ◌<◌, ◌≤◌, false, length, slice_index};
 ghost use Rattle.niss_moves.specs.Facelets.{face_letter};
-ghost use Rattle.niss_moves.specs.declared.turn.Turn.{Turn};
+ghost use Rattle.niss_moves.specs.declared.turn.Face.{Face};
 ghost use Rattle.niss_text.specs.Signs.{is_within};
-ghost use Rattle.niss_embed.specs.ShownTurn.{suffix_byte, turn_width, turn_bytes, is_face_letter, is_suffix, suffix_of, is_of_word, stands_at};
+ghost use Rattle.niss_embed.specs.ShownTurn.{suffix_byte, turn_bytes, goes_on, is_apart, is_face_letter, is_letter_of, is_of_word, stands_at};
 
 use niss_moves::{Face, Power, Turn};
 
 /// The letter of a face.
 fn letter(face: Face) -> u8
-    ensures { result ≡ face_letter face }
+    ensures is { result ≡ face_letter face }
+    ensures capital { result ≤ 90 }
 {
     match face {
         Face::U => b'U',
@@ -22,24 +23,13 @@ fn letter(face: Face) -> u8
 }
 
 /// What stands after the letter of a turn, or a blank.
-fn suffix(power: Power) -> u8
+pub(crate) fn suffix(power: Power) -> u8
     ensures { result ≡ suffix_byte power }
 {
     match power {
         Power::Quarter => b' ',
         Power::Half => b'2',
         Power::Counter => b'\'',
-    }
-}
-
-/// How many bytes a turn has.
-fn turn_width(power: Power) -> usize
-    ensures is { result ≡ turn_width power }
-    ensures few { result ≤ 2 }
-{
-    match power {
-        Power::Quarter => 1,
-        Power::Half | Power::Counter => 2,
     }
 }
 
@@ -64,58 +54,61 @@ pub fn is_within(first: u8, last: u8, byte: u8) -> bool
     byte >= first && byte <= last
 }
 
-/// Whether a byte is of a word: a letter, a digit, an apostrophe, beyond ASCII, or one that makes a face with a letter.
+/// Whether a byte is of a word: a letter or a digit of ASCII, or one that makes a face with a letter, as `:` does.
 fn is_of_word(byte: u8) -> bool
     ensures { result ≡ is_of_word byte }
 {
-    is_within(b'0', b'=', byte)
-        || (is_within(b'A', b'Z', byte)
-            || (is_within(b'a', b'z', byte) || (byte == b'\'' || byte >= 128)))
+    is_within(b'0', b'=', byte) || (is_within(b'A', b'Z', byte) || is_within(b'a', b'z', byte))
 }
 
-/// What a byte after the letter of a turn says of it.
-fn suffix_of(byte: u8) -> u8
-    ensures { result ≡ suffix_of byte }
+/// Whether a letter before a byte is of a word: before a 2 or a 3 it may be of a turn.
+fn goes_on(byte: u8) -> bool
+    ensures { result ≡ goes_on byte }
 {
-    if is_suffix(byte) { byte } else { b' ' }
+    is_of_word(byte) && !(byte == b'2' || byte == b'3')
 }
 
-/// Whether a turn stands at a place of a text as a word of its own.
-#[tactic(auto, unfolding(crate::specs::ShownTurn::stands_at))]
-pub fn stands_at(text: &[u8], turn: Turn, at: usize) -> bool
+/// Whether a letter at a place of a text isn't within a word.
+fn is_apart(text: &[u8], at: usize) -> bool
     requires { at < length text.now }
-    ensures { result ≡ stands_at text.now turn at }
+    ensures { result ≡ is_apart text.now at }
 {
-    let behind = at + turn_width(turn.power);
-    (byte_at(text, at) == letter(turn.face)
-        && suffix_of(byte_at(text, at + 1)) == suffix(turn.power))
-        && !(is_of_word(byte_at(text, at.saturating_sub(1))) || is_of_word(byte_at(text, behind)))
+    !(is_of_word(byte_at(text, at.saturating_sub(1))) || goes_on(byte_at(text, at + 1)))
 }
 
-/// Whether a byte is the letter of a face.
+/// Whether a byte is the letter of a face, capital or small.
+fn is_letter_of(face: Face, byte: u8) -> bool
+    ensures { result ≡ is_letter_of face byte }
+{
+    let capital = letter(face);
+    byte == capital || byte == capital + 32
+}
+
+/// Whether the letter of a face stands at a place of a text, and isn't within a word.
+#[tactic(auto, unfolding(crate::specs::ShownTurn::stands_at))]
+pub fn stands_at(text: &[u8], face: Face, at: usize) -> bool
+    requires { at < length text.now }
+    ensures { result ≡ stands_at text.now face at }
+{
+    is_letter_of(face, byte_at(text, at)) && is_apart(text, at)
+}
+
+/// Whether a byte is the letter of some face.
 fn is_face_letter(byte: u8) -> bool
     ensures { result ≡ is_face_letter byte }
 {
-    byte == b'U'
-        || (byte == b'D' || (byte == b'R' || (byte == b'L' || (byte == b'F' || byte == b'B'))))
+    is_letter_of(Face::U, byte)
+        || (is_letter_of(Face::D, byte)
+            || (is_letter_of(Face::R, byte)
+                || (is_letter_of(Face::L, byte)
+                    || (is_letter_of(Face::F, byte) || is_letter_of(Face::B, byte)))))
 }
 
-/// Whether a byte is a 2 or an apostrophe.
-fn is_suffix(byte: u8) -> bool
-    ensures { result ≡ is_suffix byte }
-{
-    byte == b'2' || byte == b'\''
-}
-
-/// Whether some turn may stand at a place of a text: a letter of a face that isn't within a word. It is soon told.
+/// Whether the letter of some face stands so at a place of a text. It is soon told.
 #[inline(never)]
-#[tactic(auto, using(crate::proofs::ShownLemmas::none_begins))]
 pub fn may_begin(text: &[u8], at: usize) -> bool
     requires { at < length text.now }
-    ensures { result ≡ false → (turn : Turn) → stands_at text.now turn at ≡ false }
+    ensures { result ≡ false → (face : Face) → stands_at text.now face at ≡ false }
 {
-    let next = byte_at(text, at + 1);
-    is_face_letter(byte_at(text, at))
-        && (!is_of_word(byte_at(text, at.saturating_sub(1)))
-            && (is_suffix(next) || !is_of_word(next)))
+    is_face_letter(byte_at(text, at)) && is_apart(text, at)
 }

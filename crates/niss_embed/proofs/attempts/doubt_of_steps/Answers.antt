@@ -22,5 +22,5 @@ returns-clause-are c = record {
   are_steps = c.in_ok-count.ensures.are EachStep refl;
   tells = c.solving_part-part.ensures;
   told_is = lost_told c.solving_part-part.result c.args.scramble.now (take c.in_ok-count.count c.moves_of.new.out) (take c.in_ok-count.count c.moves_of.new.places)
-      c.args.text.now c.args.lines.now c.unwrap_or.result c.none.result c.lost_turn.result c.if-part-ne0.false c.lost_turn.ensures c.unwrap_or.ensures c.none.ensures;
+      c.args.text.now c.args.lines.now c.unwrap_or.result c.none.result c.doubt_of_whole.result c.if-part-ne0.false c.doubt_of_whole.ensures c.unwrap_or.ensures c.none.ensures;
 }

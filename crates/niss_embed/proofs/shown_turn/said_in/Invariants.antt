@@ -5,4 +5,4 @@ use Rattle.niss_embed.specs.ShownTurn.{said_in, stands_at}
 use Rattle.niss_embed.proofs.shown_turn.said_in.Given as goal
 
 abbrev pub invariant-loop-at : goal.invariant-loop-at
-invariant-loop-at l = find (stands_at l.text l.turn) (range_with_len l.at (l.end - l.at)) ≡ said_in l.text l.line l.turn
+invariant-loop-at l = find (stands_at l.text l.face) (range_with_len l.at (l.end - l.at)) ≡ said_in l.text l.line l.face

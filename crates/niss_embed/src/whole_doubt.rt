@@ -1,0 +1,75 @@
+//! What makes one doubt an attempt of which no part solves: that a turn was lost, or that the cube was turned.
+ghost use Rattle.std.specs.Prelude.{◌≡◌, ◌<◌, ◌≤◌, Ok, length};
+ghost use Rattle.niss_embed.specs.Corners.{AreBounds};
+ghost use Rattle.niss_embed.specs.Parts.{bounds_of};
+ghost use Rattle.niss_embed.specs.WholeDoubt.{IsLostOrTurned, IsLostOrTurnedIn, is_beyond};
+
+use crate::attempts::Doubt;
+use crate::line_texts::read_by;
+use crate::lost_turn::lost_turn;
+use crate::parts::MOST_STEP_BYTES;
+use crate::shown_turn::count_steps;
+use crate::step_bounds::bounds_of;
+use crate::step_corners::AttemptCorners;
+use crate::turned_cube::turned_cube;
+use crate::whole_steps::WholeSteps;
+use niss_moves::{LineReader, Niss};
+use niss_shell::MOST_BYTES;
+use niss_text::TextLine;
+
+/// Whether steps aren't a line each of the text, or they or a scramble have too many bytes.
+fn is_beyond(scramble: &[u8], steps: &[u8], bounds: &[usize], lines: &[TextLine]) -> bool
+    requires bounds { bounds.now ≡ bounds_of steps.now }
+    requires some { 0 < length bounds.now }
+    ensures { result ≡ is_beyond scramble.now steps.now lines.now }
+{
+    bounds.len() - 1 != count_steps(lines)
+        || (scramble.len() > MOST_BYTES || steps.len() > MOST_STEP_BYTES)
+}
+
+/// The doubt of steps that begin and end at these places.
+fn lost_or_turned(
+    scramble: &Niss,
+    steps: &[u8],
+    bounds: &[usize],
+    text: &[u8],
+    lines: &[TextLine],
+) -> Option<Doubt>
+    requires few { (0 < length bounds.now) × (length bounds.now ≤ 13) }
+    requires bounds { AreBounds bounds.now }
+    requires room { length steps.now ≤ 65536 }
+    ensures { IsLostOrTurnedIn (Ok scramble.now) steps.now bounds.now text.now lines.now result }
+{
+    let corners = AttemptCorners::of(scramble, steps, bounds);
+    let whole = WholeSteps {
+        scramble,
+        steps,
+        bounds,
+        corners: &corners,
+    };
+    match lost_turn(&whole, text, lines) {
+        Some(lost) => Some(lost),
+        None => turned_cube(&whole, lines),
+    }
+}
+
+/// The doubt that with a turn before a step of an attempt, or after the last one, all steps solve the scramble, and that the
+/// text shows it there; or else that they do if the cube is turned before one. The steps stand a line each.
+pub fn doubt_of_whole(
+    scramble: &[u8],
+    steps: &[u8],
+    text: &[u8],
+    lines: &[TextLine],
+) -> Option<Doubt>
+    ensures { IsLostOrTurned scramble.now steps.now text.now lines.now result }
+{
+    let bounds = bounds_of(steps);
+    if is_beyond(scramble, steps, &bounds, lines) {
+        return None;
+    }
+    let mut reader = LineReader::new();
+    match read_by(&mut reader, scramble) {
+        Ok(scramble) => lost_or_turned(scramble, steps, &bounds, text, lines),
+        Err(_) => None,
+    }
+}
