@@ -75,7 +75,9 @@ def beside_each_other(tally: Tally, browser: Browser) -> None:
     for made in (EO, OTHER, DR, LAST):
         at, told = Position(LONGER, *made), shown[line_of(made)]
         tally.equal(f"{made}: the cube on both sides", told["letters"], [at.letters(side) for side in SIDES])
-        tally.equal(f"{made}: all moves", told["total"], f"{at.in_all()} move{'' if at.in_all() == 1 else 's'}")
+        reached = {EO: ", EO U/D", OTHER: ", EO R/L", DR: ", DR F/B", LAST: ""}[made]
+        moves = f"{at.in_all()} move{'' if at.in_all() == 1 else 's'}"
+        tally.equal(f"{made}: all moves, and what is reached", told["total"], moves + reached)
         steps = [[" ".join(step.split()[:2]), *counts] for step, *counts in told["steps"]]
         tally.equal(f"{made}: what follows on each side", steps, steps_of(at))
         tally.equal(f"{made}: nothing is marked only after a reduction", any(told["bad"]), made != DR)
@@ -144,6 +146,29 @@ def goes_on_where_it_ended(tally: Tally, browser: Browser) -> None:
             browser.click(f"#kept-list > li:nth-child({place}) [data-control^='on ']")
             tally.holds(f"{line} after {key} is gone on with", browser.comes("bracketed", line))
             tally.equal(f"{line} after {key}", browser.text("side"), sides[line])
+
+
+def says_which(tally: Tally, browser: Browser) -> None:
+    """Of lines that are reduced it is said by which reduction, and of one that solves only that."""
+    totals = "return all('#comparison-lines .total').map((each) => each.textContent).sort()"
+    notes = "return all('#comparison-lines > li > .note').map((each) => each.textContent).filter(Boolean)"
+    browser.walk(
+        tally,
+        "two reductions and a solution",
+        ("go", "#scramble=L2_U2_R-_F-&kept=normal.F,normal.F_R.inverse.U,normal.F_R_U2_L2", {}),
+        ("until", KEPT_SAID, {}),
+    )
+    for line in ("F", "F R (U)", "F R U2 L2"):
+        browser.script(f"{COMPARE}.find((each) => each.dataset.control === 'compare ' + arguments[0]).click()", line)
+    browser.walk(
+        tally,
+        "they are compared",
+        ("click", "#kept-compare", {}),
+        ("until", "return document.querySelector('#comparison').open", {}),
+        ("wait", {totals: ["1 move, DR R/L", "3 moves, DR U/D", "4 moves, solved"]}),
+        ("wait", {notes: ["nissy has no step after a DR."] * 2}),
+        ("press", Keys.ESCAPE, {}),
+    )
 
 
 def says_nothing_of_no_steps(tally: Tally, browser: Browser) -> None:

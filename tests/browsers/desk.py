@@ -1,6 +1,6 @@
 """What is kept is the desk: beside the best where there is room, with an undo of what is taken away."""
 from best import LONGER
-from browser import Browser
+from browser import Browser, Keys
 from kept import KEPT_SAID
 from tally import Tally
 
@@ -74,6 +74,54 @@ def has_a_column(tally: Tally, browser: Browser) -> None:
             ("go", lines, {}),
             ("until", KEPT_SAID, {NUMBERS: 1, BESIDE: [], "n #kept-list .total": 4}),
         )
+
+
+def shows_notes(tally: Tally, browser: Browser) -> None:
+    """A note is seen whole, a long one on a line of its own and on several; it has no line breaks, and Enter ends it."""
+    # a field of one line doesn't say what it cuts, so that its text is measured beside it
+    cut = """return all('.note-field').filter((each) => {
+            const own = getComputedStyle(each), text = document.createElement('span');
+            Object.assign(text.style, { font: own.font, position: 'absolute', whiteSpace: 'nowrap' });
+            text.textContent = each.value;
+            document.body.append(text);
+            const { width } = text.getBoundingClientRect();
+            text.remove();
+            const [across, along] = [parseFloat(own.width), parseFloat(own.height)].map((size) => size - 2);
+            const lines = Math.max(1, Math.floor(along / (1.3 * parseFloat(own.fontSize))));
+            return width > lines * across || each.scrollWidth > each.clientWidth || each.scrollHeight > each.clientHeight;
+        }).map((each) => each.value)"""
+    short, long = (
+        "a note of 25 signs in all",
+        "a note of 80 signs, as many as one has: " + "2c4e, then F B or " * 2 + "4c4e",
+    )
+    values = "return all('.note-field').map((each) => each.value).sort().reverse()"
+    tally.equal("how long they are", (len(short), len(long)), (25, 80))
+    notes = [each.replace(" ", "_").replace(",", "%2C") for each in (short, long)]
+    lines = f"{ADDRESS}&kept=normal.R;{notes[0]},normal.R_U;{notes[1]},normal.R_U_F"
+    for width in (1280, 1024, 390, 320, 1920):
+        browser.resize(width, 900, width < 600)
+        looks = {
+            cut: [],
+            values: [long, short, ""],
+            "return document.documentElement.scrollWidth - document.documentElement.clientWidth": 0,
+        }
+        browser.walk(tally, f"{width}: notes", ("go", lines, {}), ("until", KEPT_SAID, {}), ("wait", looks))
+    browser.resize()
+    browser.walk(
+        tally,
+        "typed",
+        ("open", f"{ADDRESS}&kept=normal.R", {}),
+        ("until", KEPT_SAID, {}),
+        ("click", ".note-field", {}),
+        ("press", "two", Keys.ENTER, "words", Keys.ENTER, {LINES: [["R", "twowords"]]}),
+        ("until", "return location.hash.endsWith(';twowords')", {}),
+        ("script", "const it = document.querySelector('.note-field'); it.value = 'two\\nlines'", {}),
+        (
+            "script",
+            "document.querySelector('.note-field').dispatchEvent(new Event('change'))",
+            {LINES: [["R", "two lines"]]},
+        ),
+    )
 
 
 def undoes(tally: Tally, browser: Browser) -> None:

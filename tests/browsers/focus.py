@@ -5,7 +5,7 @@ import time
 from best import LONGER
 from browser import Browser, Keys
 from searches import ANOTHER
-from steps import ADDRESS, SCRAMBLE, back
+from steps import ADDRESS, EXAMPLE, SCRAMBLE, back
 from tally import Tally
 from wanted import SIDES, Position, counted
 
@@ -67,6 +67,8 @@ def stays(tally: Tally, browser: Browser) -> None:
     browser.script(SLACK + "part('solutions-close').focus()", "slack", "3")
     browser.walk(tally, "a list that is given up", ("press", Keys.ENTER, {"focus": "eofb.normal"}))
     browser.script(cell)
+    # a list is seen once it comes
+    browser.until("return part('slack').offsetParent !== null")
     browser.walk(tally, "another slack after that", ("script", SLACK, "slack", "1", {"focus": "slack"}))
     browser.go(ADDRESS)
     browser.walk(tally, "continuations that come", ("script", FOCUS, "own", {}), ("wait_best", {"focus": "own"}))
@@ -165,6 +167,19 @@ def comes_back_to_steps(tally: Tally, browser: Browser) -> None:
                 ("script", "history.back()", {}),
                 ("comes", "label", f"Edit {name}", {"steps": count}),
             )
+
+
+def stays_in_the_line(tally: Tally, browser: Browser) -> None:
+    """With a step that is undone by its key the focus goes from a button of any step to the last one that is left, and no further."""
+    for row in (1, 3):
+        browser.open("#scramble=R_U_F2_D_L&steps=normal.D_L~normal.B_U~inverse.F")
+        browser.walk(
+            tally,
+            f"step {row} of three",
+            ("script", f"document.querySelector('#line-list li:nth-child({row}) .acts button:last-child').focus()", {}),
+            ("press", "u", {"steps": 2, "label": "Remove B U"}),
+            ("press", "u", {"steps": 1, "label": "Remove D L"}),
+        )
 
 
 def one_stop(tally: Tally, browser: Browser) -> None:
@@ -275,3 +290,12 @@ def goes_on(tally: Tally, browser: Browser) -> None:
         ("follow", f"{dr}&list={cell}.0", {OPEN: True}),
         ("act", "#solutions-close", {"focus": cell, OPEN: True}),
     )
+    browser.walk(
+        tally,
+        "what is solved gives up nothing",
+        ("go", "#scramble=R_U_F2&steps=normal.F2_U-", {ANEW: ["Going on from here, this DR given up"]}),
+        ("submit", "own", "R'", {}),
+        ("comes", "steps", 2, {ANEW: [], "finished": "Solved: 3 moves."}),
+    )
+    # a page without a scramble has a solved cube
+    browser.walk(tally, "a first scramble", ("open", {}), ("fill", "scramble", EXAMPLE, {ANEW: [], OPEN: True}))

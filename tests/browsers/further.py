@@ -8,6 +8,7 @@ from best import ROWS, SCRAMBLE, address_of
 from browser import LAST_STEP_AWAY, PROCESSORS, Browser
 from searches import FLIPPED
 from tally import Tally
+from wanted import counted
 
 SEEN = "window.isSeen = true;"
 TURN = "window.isSeen = arguments[0]; document.dispatchEvent(new Event('visibilitychange'))"
@@ -123,8 +124,11 @@ def shows_found(tally: Tally, browser: Browser, first: list[list[str]], top: int
     said = re.fullmatch(r"[0-9,]+ better rows?, from (\d+) moves", words)
     tally.holds(f"a button says that better ones are there: {words}", said and int(said[1]) < int(first[0][0]))
     browser.script("scrollTo({ top: 0, behavior: 'instant' })")
+    before = browser.script(KEYS)
     browser.click("#best-new")
     rows = browser.script(ROWS)
+    fresh = [key for key in browser.script(KEYS) if key not in before]
+    tally.equal("as many as it says come in", len(fresh), int(words.split()[0].replace(",", "")))
     tally.equal(
         "which it shows",
         (rows[0][0], browser.script(FIRST_ROW), browser.script(IS_NEW)),
@@ -184,7 +188,7 @@ def says_more(tally: Tally, browser: Browser) -> None:
         f"some belong before the last, and none before the first: {fresh}",
         fresh and int(before[0][0]) <= fresh[0] <= int(before[-1][0]),
     )
-    tally.holds(f"so it is said: {words}", re.fullmatch(rf"[0-9]+ more rows?, from {fresh[0]} moves", words))
+    tally.equal("so it is said", words, f"{counted(len(fresh), 'more row')}, from {fresh[0]} moves")
 
 
 def pauses(tally: Tally, browser: Browser) -> None:

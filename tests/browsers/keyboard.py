@@ -141,7 +141,7 @@ def keep(tally: Tally, browser: Browser) -> None:
     browser.walk(
         tally,
         "an emptied skeleton",
-        ("act", LAST_STEP_AWAY, {}),
-        ("act", "#clear", {"bracketed": "", "line-empty?": True}),
+        *(("act", LAST_STEP_AWAY, {"steps": left}) for left in (2, 1)),
+        ("act", LAST_STEP_AWAY, {"bracketed": "", "line-empty?": True}),
     )
     shows(tally, browser, "an emptied skeleton")

@@ -31,7 +31,7 @@ def fmc_text(tally: Tally, browser: Browser) -> None:
 
 
 def edits(tally: Tally, browser: Browser) -> None:
-    """A step in the middle is edited, left as it was, refused, and taken away; all are by Clear, which one step doesn't have."""
+    """A step in the middle is edited, left as it was, refused, and taken away; others are beside it."""
     step = "#line-list li:nth-child(2)"
     # it is seen as it is written, and one types at its end
     at = "const it = document.activeElement; return [it.value, it.selectionStart]"
@@ -46,8 +46,8 @@ def edits(tally: Tally, browser: Browser) -> None:
         ("until", "return document.querySelector('#line-list .fault')?.textContent.includes('no move')", {}),
         ("script", change, {}),
         ("comes", "bracketed", "R L (U2) F", {"steps": 3, "label": "Edit L on the inverse side U2"}),
-        ("act", "#line-list li:nth-child(1) button:nth-of-type(2)", {"bracketed": "L (U2) F", "clear?": True}),
-        ("act", LAST_STEP_AWAY, {"steps": 1, "clear?": False}),
+        ("act", "#line-list li:nth-child(1) button:nth-of-type(2)", {"bracketed": "L (U2) F"}),
+        ("act", LAST_STEP_AWAY, {"bracketed": "L (U2)", "steps": 1}),
     )
 
 
@@ -150,13 +150,54 @@ def other_side(tally: Tally, browser: Browser) -> None:
         )
 
 
+def goes_on_there(tally: Tally, browser: Browser) -> None:
+    """Moves by hand go on the side of the last step once that is made on the other side, and on the normal one after a step over both sides."""
+    other = "document.querySelectorAll('#line-list li')[arguments[0]].lastChild.lastChild.click()"
+    over_both = "R' U' F U2 F' L B D2 R2 D R2 U' D' R B2 D' B R' F U2 F2 R' U' F"
+    browser.walk(
+        tally,
+        "the last of two steps, and the first",
+        ("go", "#scramble=R_U_F&steps=normal.D~normal.R2", {"side": "normal side"}),
+        ("script", other, 1, {"bracketed": "D (R2)", "side": "inverse side"}),
+        ("script", other, 0, {"bracketed": "(D R2)", "side": "inverse side"}),
+        ("script", other, 1, {"bracketed": "(D) R2", "side": "normal side"}),
+        ("script", other, 0, {"bracketed": "D R2", "side": "normal side"}),
+        ("go", "#scramble=R_U_F&steps=normal.D~normal.R2.inverse.L&side=inverse", {"side": "inverse side"}),
+        ("script", other, 1, {"bracketed": "D L (R2)", "side": "normal side"}),
+    )
+    browser.walk(
+        tally,
+        "a row of a list over both sides",
+        ("go", address_of(over_both) + "&steps=inverse.L_F_U-_D2_B&side=inverse&list=drud-eofb.both.0", {}),
+        ("act", "#solutions-groups .take", {"bracketed": "(L F U' D2 B) D2 R (U R)", "side": "normal side"}),
+    )
+
+
+def says_its_end(tally: Tally, browser: Browser) -> None:
+    """After moves by hand that keep a reduction, or solve, it is said what is reached, since no step follows."""
+    reduced = "DR F/B is reached: 12 moves. nissy has no step after a DR: go on by hand."
+    for address, moves, said in (
+        (WRITTEN + "&steps=inverse.B_D_R_F2_B_D~normal.R_B-_D2_R", "U2 B", reduced),
+        ("#scramble=R_U&steps=normal.U-", "R'", "Solved: 2 moves."),
+    ):
+        browser.walk(tally, moves, ("open", address, {}), ("submit", "own", moves, {}), ("comes", "finished", said, {}))
+        tally.equal(f"{moves}: what is said", browser.hears(said), said)
+
+
 def shares_lines(tally: Tally, browser: Browser) -> None:
-    """What a step is changed by stands beside its last words, if there is room."""
+    """
+    What a step is changed by stands beside its last words, if there is room; and how many moves it has beside the last of the lines that these take.
+    """
     places = """const [moves, words, acts] = ['.moves', '.otherwise', '.acts'].map((name) =>
             document.querySelector(`#line-list ${name}`).getBoundingClientRect());
         return [words.top >= moves.bottom - 5, acts.top < words.bottom, words.right <= acts.left]"""
     long = "#scramble=R_U_F&steps=normal.R_U_F_L_B_D_R_U_F_L_B_D"
     browser.walk(tally, "a step whose words have two lines", ("go", long, {places: [True, True, True]}))
+    beside = """const lines = [...document.querySelector('#line-list .moves').getClientRects()], last = lines.at(-1);
+        const count = document.querySelector('#line-list .count').getBoundingClientRect();
+        return [lines.length, count.left >= last.right, Math.abs(count.bottom - last.bottom) < 5]"""
+    longer = "#scramble=R_U_F&steps=normal." + "_".join("RUFLBD" * 5)
+    browser.walk(tally, "a step whose moves have two lines", ("go", longer, {beside: [2, True, True]}))
 
 
 def by_keys(tally: Tally, browser: Browser) -> None:

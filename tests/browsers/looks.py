@@ -187,8 +187,15 @@ def prints(tally: Tally, browser: Browser) -> None:
 
 
 def themes(tally: Tally, browser: Browser) -> None:
-    """The theme is chosen, and is kept."""
+    """Its colours are chosen among what a class needs, and are kept."""
     ground = "return getComputedStyle(document.body).backgroundColor"
+    browser.walk(
+        tally,
+        "beside what covers moves",
+        ("wait", {"theme?": False}),
+        ("click", "[popovertarget=help-keys]", {"theme?": True, "cover?": True}),
+        ("press", Keys.ESCAPE, {"theme?": False}),
+    )
     light = browser.script(ground)
     browser.choose("theme", "dark")
     dark = browser.script(ground)

@@ -114,10 +114,8 @@ class Mean(Beside):
         self.browser.wait_best()
         ways = self.sheet.ways(self.sheet.line, 1)
         shown = self.ways[: len(self.browser.texts("#best-body .take"))]
-        room = next(each for each in ROOMS if len(shown) <= each)
-        # where all rows are shown others have room below them, and no more than that
-        better = [way for way in ways[:MOST_LONGER] if way.rank < shown[-1].rank] if len(shown) == room else ways[:room]
-        joining = [way for way in better if way not in shown]
+        # as many come in as there is room for
+        joining = [way for way in ways[: next(each for each in ROOMS if len(shown) <= each)] if way not in shown]
         kind = "better" if joining and joining[0].total < shown[0].total else "more"
         button = f"{counted(len(joining), f'{kind} row')}, from {joining[0].total} moves" if joining else ""
         self.same(f"{what}: the button", self.browser.text("best-new"), button)

@@ -100,6 +100,26 @@ def says_all(tally: Tally, browser: Browser) -> None:
     )
 
 
+def says_triggers(tally: Tally, browser: Browser) -> None:
+    """A row of the best says on a phone too from which case the trigger of its reduction goes, in the line of that, which isn't cut."""
+    first = """return all('#best-body .first').map((each) => {
+        const range = document.createRange();
+        range.selectNodeContents(each);
+        const said = [...each.querySelectorAll('.passed')].map((one) => getComputedStyle(one, '::before'))
+            .filter(({ display }) => display !== 'none').map(({ content }) => content.replace(/[" ]/g, ''));
+        const isWhole = range.getBoundingClientRect().right <= each.closest('tr').querySelector('.star').getBoundingClientRect().left;
+        return [said, [...each.querySelectorAll('.trigger')].map((one) => one.dataset.case).slice(0, 1), isWhole];
+    })"""
+    browser.open(SCRAMBLE)
+    browser.wait_best()
+    for width in (390, 360, 320):
+        browser.resize(width, 800, True)
+        rows = browser.script(first)
+        tally.equal(f"{width}: the case of each trigger", [said for said, *_ in rows], [case for _, case, _ in rows])
+        tally.holds(f"{width}: of some rows, and none is cut: {rows}", all(each for *_, each in rows) and any(rows[0]))
+    browser.resize(360, 800)
+
+
 def says_once(tally: Tally, browser: Browser) -> None:
     """While reductions are listed the best ones, which are the same, don't stand above them, where the list begins in view; closed, they are back."""
     for width, height in ((1200, 900), (360, 800)):

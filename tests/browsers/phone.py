@@ -2,7 +2,7 @@
 import re
 
 from best import LONGER, address_of
-from browser import Browser, Keys
+from browser import LAST_STEP_AWAY, Browser, Keys
 from narrow import SMALL, TARGET
 from steps import ADDRESS, SCRAMBLE
 from tally import Tally
@@ -108,9 +108,9 @@ def undoes(tally: Tally, browser: Browser) -> None:
     browser.walk(
         tally,
         "no keyboard comes up over an emptied line",
-        ("go", ADDRESS + "&steps=normal.R~normal.U", {}),
-        ("script", INTO_VIEW, "#clear", "center", {}),
-        ("click", "#clear", {}),
+        ("go", ADDRESS + "&steps=normal.R", {}),
+        ("script", INTO_VIEW, LAST_STEP_AWAY, "center", {}),
+        ("click", LAST_STEP_AWAY, {}),
         ("comes", "steps", 0, {"focus": "line-heading"}),
     )
     browser.go(ADDRESS)

@@ -216,6 +216,7 @@ def copies(tally: Tally, browser: Browser) -> None:
         ("comes", "steps", 1, {}),
         ("act", "#keep-line", {}),
         ("script", NOTE, "it's <b>good</b>, 9", {}),
+        ("wait", {"return seen('button').filter((each) => each.textContent === 'Copy all').length": 1}),
         ("act", "#copy-desk", {}),
     )
     text = browser.script("return window.copied")
@@ -230,6 +231,7 @@ def copies(tally: Tally, browser: Browser) -> None:
     tally.equal(
         "the note", browser.script("return all('.note-field').map((each) => each.value)"), ["it's <b>good</b>, 9"]
     )
+    tally.equal("how many came", browser.hears("on the desk"), "3 scrambles are on the desk.")
     browser.walk(
         tally,
         "a page with one of them",
@@ -241,7 +243,24 @@ def copies(tally: Tally, browser: Browser) -> None:
         ("script", PASTE_ALL, text, {}),
         ("comes", CHIPS, ["1 ★2", "2", "3"], {KEPT: ["B", "D (L)"]}),
     )
+    tally.equal("how many are new", browser.hears("on the desk"), "2 more scrambles are on the desk.")
     browser.no_longer(stub)
+
+
+def leads_on_from_a_note(tally: Tally, browser: Browser) -> None:
+    """The press that ends a note is one on another scramble, which it leads to."""
+    begin(browser, tally, "a note")
+    browser.walk(
+        tally,
+        "a note that is typed",
+        ("follow", "#scramble=R_U_F&steps=normal.D_L", {SHOWN: ["1"], "steps": 1}),
+        ("act", "#keep-line", {CHIPS: ["1 ★1", "2", "3"]}),
+        ("click", ".note-field", {}),
+        ("press", "good", {}),
+        ("click", chip(2), {}),
+        ("comes", "scramble=", "F' L2 U", {SHOWN: ["2"]}),
+        ("act", chip(1), {LINES: [["D L", "good"]]}),
+    )
 
 
 def reads_edits(tally: Tally, browser: Browser) -> None:
@@ -313,6 +332,7 @@ def says_what_is_refused(tally: Tally, browser: Browser) -> None:
         ("act", "#keep-line", {}),
         ("act", chip(2), {"kept": 0}),
         ("act", chip(1), {"bracketed": "D", KEPT: ["D"], CHIPS: ["1 ★1", "2", "3"]}),
+        *(("act", "#desk-remove", {"n #desk-chips a": left, "desk?": left > 0}) for left in (2, 1, 0)),
     )
     browser.no_longer(stub)
     browser.reopen()

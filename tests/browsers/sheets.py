@@ -3,7 +3,7 @@ from typing import NamedTuple
 
 from compared import counts_of
 from sighted import marked
-from told import AXES, Line, bracketed, is_reduced, joined, states
+from told import AXES, Line, bracketed, is_reduced, joined, newly, states
 from wanted import SIDES, counted
 from ways import Model, Way, state_of, title_of
 
@@ -98,7 +98,7 @@ class Sheet:
         ]
         said = f"First: {bracketed(first.eo, first.dr)}, {first.total} in all" if first else ""
         texts = [*([] if steps else ["nissy has no step after a DR."]), said, kept.note]
-        total = counted(at.in_all(), "move")
+        total = ", ".join([counted(at.in_all(), "move"), *newly([], states(at))])
         return [bracketed(*kept.line.steps), total, [at.letters(side) for side in SIDES], captions, rows, texts]
 
 

@@ -27,7 +27,7 @@ def back(browser: Browser) -> None:
 
 
 def history(tally: Tally, browser: Browser) -> None:
-    """Steps, undo, Clear and random scrambles can be had back by the browser; typing, a side and a list are no such steps."""
+    """Steps, undo and random scrambles can be had back by the browser; typing, a side and a list are no such steps."""
     count = "return history.length"
     browser.open(ADDRESS)
     entries = browser.script(count)
@@ -38,10 +38,10 @@ def history(tally: Tally, browser: Browser) -> None:
     first = browser.text("bracketed")
     browser.walk(tally, "by hand", ("submit", "own", "R", {}), ("comes", "steps", 2, {}))
     both = browser.text("bracketed")
-    browser.walk(tally, "a step, moves by hand and Clear make one each", ("act", "#clear", {count: entries + 3}))
+    browser.walk(tally, "a step, moves by hand and Remove make one each", ("act", LAST_STEP_AWAY, {count: entries + 3}))
     back(browser)
     browser.walk(
-        tally, "Back after Clear", ("wait", {"bracketed": both}), ("act", LAST_STEP_AWAY, {"bracketed": first})
+        tally, "Back after Remove", ("wait", {"bracketed": both}), ("act", LAST_STEP_AWAY, {"bracketed": first})
     )
     for what, looks in (
         ("an undone step", {"bracketed": both}),
@@ -139,7 +139,7 @@ def returns(tally: Tally, browser: Browser) -> None:
 
 def leaves_list(tally: Tally, browser: Browser) -> None:
     """An open list doesn't outlast its cube, is closed by its cell, its button and a key, and is looked for once."""
-    for act in (LAST_STEP_AWAY, "#clear", "#bar-undo", "#best-body .take"):
+    for act in (LAST_STEP_AWAY, "#bar-undo", "#best-body .take"):
         browser.go(ADDRESS + "&steps=normal.D2_R2_L_U")
         browser.wait_best()
         browser.act('[data-cell="drrl-eoud.normal"]')

@@ -19,7 +19,6 @@ STOPS = {
     "marks",
     "play",
     "keep-line",
-    "theme",
     "solutions-close",
     "twins",
 }

@@ -113,6 +113,14 @@ def marks_what_is_pointed_at(tally: Tally, browser: Browser) -> None:
     )
 
 
+def marks_its_reduction(tally: Tally, browser: Browser) -> None:
+    """A line that is solved after a reduction has the marks of that, though others hold then too."""
+    steps = "#scramble=L2_U2_R-_F-&steps=normal.F"
+    said = {"marked-normal": "· DR R/L: 0c0e", "marked-inverse": "· DR R/L: 0c0e"}
+    for line in (steps, f"{steps}~normal.R", f"{steps}~normal.R_U2_L2"):
+        browser.walk(tally, line, ("go", line, said))
+
+
 def takes_an_empty_line(tally: Tally, browser: Browser) -> None:
     """An empty line at the end of a scramble is nothing new: nothing is searched anew for it."""
     browser.walk(

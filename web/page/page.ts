@@ -16,12 +16,13 @@ import { refreshRows, type StarActs } from "./shared/rows.js";
 import { ScrambleField, type ScrambleChange } from "./cards/scramble.js";
 import { SolutionList } from "./cards/solutions.js";
 import {
-  ORIENTATIONS, bracketed, isReduced, isReduction, lastSideOf, sidesOf, stateOf, stepNamed, type Part, type Side,
-  type Step,
+  ORIENTATIONS, bracketed, isReduced, isReduction, lastSideOf, sideAfter, sidesOf, stateOf, stepNamed, type Part,
+  type Side, type Step,
 } from "./shared/offered-steps.js";
 import { StepTable, cubeWithOffers, type Cube } from "./cards/step-table.js";
 import {
-  areBeside, awaitAnswer, isBare, keepInView, listenToKeys, setUsable, showBeginning, showStart, star, withoutMoving,
+  areBeside, awaitAnswer, isAtTop, isBare, keepInView, listenToKeys, setUsable, showBeginning, showStart, star,
+  withoutMoving,
 } from "./shared/view.js";
 import { tellFailed } from "./shared/watch.js";
 import { titleOfPage, unanswered, whyNotListed, whyUnread, wordsOfDoubt } from "./shared/words.js";
@@ -74,7 +75,7 @@ export class Page {
     };
     this.#kept = new KeptCandidates(this.#keptCalls, {
       goOn: (parts, list) => this.#change({
-        parts, list, side: (list?.side ?? lastSideOf(lastOf(parts))) === "normal" ? "normal" : "inverse",
+        parts, list, side: sideAfter(list?.side ?? sidesOf(lastOf(parts))),
       }, { focusNext: list ? "list" : "table" }),
       change: (kept) => this.#change({ kept }),
     });
@@ -201,6 +202,8 @@ export class Page {
   async #refresh() {
     const turn = ++this.#turn;
     const { scramble, parts } = this.#state;
+    // looked at before anything changes, but for a page that begins: for each look the page is laid out by itself
+    const wasAtTop = this.#cube && isAtTop();
     this.#isReading = false;
     this.#cube = null;
     this.#readiness.stop();
@@ -221,7 +224,7 @@ export class Page {
     tellFailed("");
     setBusy("results", true);
     try {
-      await this.#answer(turn, asked);
+      await this.#answer(turn, asked, wasAtTop);
     } catch (fault) {
       if (turn === this.#turn) this.#refuse(fault);
     }
@@ -231,24 +234,24 @@ export class Page {
   }
 
   /** Shows the engine's answers as they come. @param asked the first of them */
-  async #answer(turn: number, asked: ReturnType<typeof cubeWithOffers>) {
+  async #answer(turn: number, asked: ReturnType<typeof cubeWithOffers>, wasAtTop: boolean | null) {
     const { cube, offers, isWhole } = await asked;
     if (turn !== this.#turn) return;
-    // looked at before anything changes: for each look after that the page would be laid out by itself
-    const isAtTop = areBeside() && scrollY === 0;
+    const stays = wasAtTop ?? isAtTop();
     const fault = "unread" in cube ? new NissyFault(cube.unread.text, cube.unread) : null;
     this.#scramble.judge(fault, "read" in cube ? cube.read : null);
     showBeginning(this.#state);
     if ("unread" in cube) return setUsable(false);
-    const shown = this.#showCube(cube, isAtTop);
-    const steps = await offers;
+    const shown = this.#showCube(cube, stays);
+    // what is there is shown at one stroke
+    const steps = Array.isArray(offers) ? offers : await offers;
     if (turn !== this.#turn) return;
     this.#showOffers(shown, steps);
     this.#readiness.begin(shown.reached, part("choices").hidden);
-    await this.#showAnswered(turn, shown, isWhole && isAtTop);
+    await this.#showAnswered(turn, shown, isWhole && stays);
   }
 
-  #showCube({ read: { line: scramble, written }, walk, views, whole }: Examined, isAtTop: boolean): CubeOfLine {
+  #showCube({ read: { line: scramble, written }, walk, views, whole }: Examined, stays: boolean): CubeOfLine {
     const { parts } = this.#state;
     const reached = lastOf(walk.reached);
     const cube = { scramble, written, parts, reached, facts: views.normal.facts, made: lastOf(walk.totals) };
@@ -264,7 +267,7 @@ export class Page {
     };
     // in one column a line that is seen stays, also where the page becomes too low for the browser to keep it there
     const isSeen = () => !areBeside() && part("line").getBoundingClientRect().top < innerHeight;
-    if (isAtTop) begin();
+    if (stays) begin();
     else withoutMoving(part(isSeen() ? "line" : "scramble-card"), begin);
     this.#checkList(reached);
     this.#showKept();
@@ -291,7 +294,7 @@ export class Page {
     this.#best.reset(part("choices").hidden ? null : { scramble, parts, reached, longer });
   }
 
-  async #showAnswered(turn: number, { reached }: CubeOfLine, isAtTop: boolean) {
+  async #showAnswered(turn: number, { reached }: CubeOfLine, stays: boolean) {
     // a list that is looked for takes the focus itself, and says what it has
     const isOfList = this.#nextFocus.waitsFor("list");
     const shown = this.#showList();
@@ -300,8 +303,8 @@ export class Page {
     part("choices").inert = false;
     if (isOfList) return;
     const isFinished = isReduced(reached) && this.#state.parts.length > 0;
-    if (this.#nextFocus.take("table")) showStart(isFinished, this.#table, isAtTop);
-    else if (!isBare(this.#state)) announceLater(this.#table.summary());
+    if (this.#nextFocus.take("table")) showStart(isFinished, this.#table, stays);
+    else if (!isBare(this.#state)) announceLater(this.#table.summary() || part("finished").textContent);
     this.#table.giveBack();
     this.#goBack();
   }

@@ -99,15 +99,17 @@ export function framesOf(
     { move: at === 0 ? "" : bracketed([moves[at - 1]]), total: position.count, views: viewsOf(nissy, position) }));
 }
 
+function countedOn(nissy: Nissy, { name }: OfferedStep, side: Side, { lines, made, count: before }: Position): Counted {
+  const count = nissy.count(name, lines[side]);
+  // where no move was made none is saved, so that all of them make as many
+  if (made[side] === "") return { ...count, total: before + (count.length ?? Infinity), best: count.solutions };
+  const totals = totalsWith(nissy, made, nissy.solve(name, lines[side]).map(({ moves }) => partOn(side, moves)));
+  const total = totals.reduce((least, each) => Math.min(least, each), Infinity);
+  return { ...count, total, best: totals.filter((each) => each === total).length };
+}
+
 function offerOf(nissy: Nissy, step: OfferedStep, position: Position, reached: string[]): Offer {
-  const [normal, inverse] = SIDES.map((side) => {
-    const count = nissy.count(step.name, position.lines[side]);
-    if (position.count === 0) return { ...count, total: count.length ?? Infinity, best: count.solutions };
-    const parts = nissy.solve(step.name, position.lines[side]).map(({ moves }) => partOn(side, moves));
-    const totals = totalsWith(nissy, position.made, parts);
-    const total = totals.reduce((least, each) => Math.min(least, each), Infinity);
-    return { ...count, total, best: totals.filter((each) => each === total).length };
-  });
+  const [normal, inverse] = SIDES.map((side) => countedOn(nissy, step, side, position));
   const least = Math.min(normal.length ?? LONGEST_STEP, inverse.length ?? LONGEST_STEP);
   const wanted = { sides: "both", limit: least - 1, most: 1 } as const;
   const [fewer] = isReduced(reached) ? [] : nissy.solve(step.name, position.lines.normal, wanted);

@@ -13,6 +13,8 @@ export type RowActs = StarActs & { goOn: (row: Row) => void };
 /** How many signs the style adds to a row that was seen, and how wide a sign of a twin is beside one of the moves. */
 const SEEN_SIGNS = 2;
 const SIGN_OF_TWIN = 0.9;
+/** How many signs are as wide as the case of a trigger, with some room, which it has before it is known. */
+const SIGNS_OF_TRIGGER = 6;
 
 /** A cell whose role stays where a narrow page lays the row out as a grid. */
 function cell(name: "td" | "th", attributes: Attributes, ...children: (Node | string)[]) {
@@ -63,7 +65,7 @@ function firstOf(next: Next) {
   const moves = lineOf(next);
   const line = moves === "" ? "" : `then ${moves}`;
   const first = element("small", { class: "first moves" }, line);
-  first.style.setProperty("--signs", String(line.length));
+  first.style.setProperty("--signs", String(line.length + SIGNS_OF_TRIGGER));
   return first;
 }
 

@@ -1,6 +1,8 @@
 // Lines that are kept beside each other: nets with what is left to do, how many steps follow, the first of the best.
 import { button, counted, element, grouped, inner, part, spoken } from "../shared/element.js";
-import { SIDES, bracketed, nameOfSide, stateOf, stepNamed, type Part, type Side } from "../shared/offered-steps.js";
+import {
+  SIDES, bracketed, furthestOf, isOffered, nameOfSide, stateOf, statesOf, stepNamed, type Part, type Side,
+} from "../shared/offered-steps.js";
 import { showMarked } from "./cube.js";
 import { emptyNet } from "./net.js";
 import { caseOfStep } from "./step-table.js";
@@ -25,7 +27,7 @@ const wordsOf = (counts: Counts) => [...counts].flatMap(([length, count], at) =>
   element("span", { class: "together" }, `${length} ×${grouped(count)}`)]);
 
 function followingOf({ steps, views: { normal: { facts } } }: Compared) {
-  if (steps.length === 0) return element("p", { class: "note" }, `${NO_STEP_AFTER_DR}.`);
+  if (steps.length === 0) return element("p", { class: "note" }, facts.solved ? "" : `${NO_STEP_AFTER_DR}.`);
   const head = SIDES.map((side) => element("th", { scope: "col" }, nameOfSide(side)));
   const rows = steps.map(({ step, counts }) => element("tr", {},
     element("th", { scope: "row" }, stateOf(step), element("small", {}, ` ${caseOfStep(facts, step)}`)),
@@ -36,6 +38,8 @@ function followingOf({ steps, views: { normal: { facts } } }: Compared) {
 
 function itemOf({ parts, note, next, goOn }: ComparedLine, compared: Compared) {
   const [{ views, total }, first] = [compared, next ?? compared.first];
+  const { solved, holds } = views.normal.facts;
+  const reached = solved ? ["solved"] : furthestOf(statesOf(holds.filter(isOffered)));
   const choice = first === null ? "" : stateOf(stepNamed((first.eo ?? first.dr).step));
   const then = first === null ? []
     : ["First: ", element("span", { class: "moves" }, first.line), `, ${first.total} in all`];
@@ -45,7 +49,7 @@ function itemOf({ parts, note, next, goOn }: ComparedLine, compared: Compared) {
   };
   return element("li", {},
     element("h3", { class: "moves" }, bracketed(parts)),
-    element("p", { class: "total" }, counted(total, "move")),
+    element("p", { class: "total" }, [counted(total, "move"), ...reached].join(", ")),
     element("div", { class: "nets" }, ...SIDES.map((side) => netOf(side, views[side], choice))),
     followingOf(compared),
     element("p", {}, ...then),

@@ -5,7 +5,7 @@ import { lastOf, present } from "../shared/certain.js";
 import { announce, element, part, spoken, tell } from "../shared/element.js";
 import { emptyNet, showCube, stickerOf } from "./net.js";
 import {
-  SIDES, axisName, bracketed, nameOfSide, newlyReached, singleMoves, type Side,
+  SIDES, axisName, bracketed, isReduced, nameOfSide, newlyReached, singleMoves, type Side,
 } from "../shared/offered-steps.js";
 import { withCases } from "../shared/passage.js";
 import { PIECES, whyOf } from "./why.js";
@@ -36,7 +36,8 @@ export function showMarked(net: SVGElement, side: Side, { letters, facts }: View
 
 /** The looks at a line: after how many single moves, and at what goal; at a step's end at its own, then at the next. */
 function looksOf(walk: Walk): { made: number; goal: string }[] {
-  const reached = walk.parts.map((_, at) => newlyReached(walk, at)[0] ?? "");
+  // what follows a reduction keeps it as its goal, also where others hold in the end
+  const reached = walk.parts.map((_, at) => (isReduced(walk.reached[at]) ? "" : newlyReached(walk, at)[0] ?? ""));
   const last = reached.filter(Boolean).at(-1) ?? "";
   const goals = walk.parts.flatMap((part, at) =>
     singleMoves([part]).map(() => reached.slice(at).find(Boolean) ?? last));
@@ -115,7 +116,7 @@ export class Nets {
     [this.#ask, this.#frames] = [ask, null];
     part("player").hidden = this.#last === 0;
     part("piece").value = "";
-    this.#draw();
+    this.#drawSoon();
   }
 
   #press(side: Side, sticker: number) {
@@ -161,7 +162,7 @@ export class Nets {
   /** @param choice what the cell of the open list would mark, or "" */
   follow(choice: string) {
     this.#open = choice;
-    this.#draw();
+    this.#drawSoon();
   }
 
   stop() {
@@ -175,7 +176,11 @@ export class Nets {
     const pointed = marked instanceof HTMLElement ? marked.dataset.marks ?? "" : "";
     if (pointed === this.#pointed) return;
     this.#pointed = pointed;
-    // what moves the focus may lay the page out for it, and needs no marks for that
+    this.#drawSoon();
+  }
+
+  /** Draws once all that is shown together is there; what moves the focus may lay the page out, without new marks. */
+  #drawSoon() {
     queueMicrotask(() => this.#draw());
   }
 

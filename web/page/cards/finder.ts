@@ -21,11 +21,10 @@ export type FoundOnAxis = { rows: Row[]; tried: number };
 /** Of all axes; `count`: of all that are kept. */
 export type Found = FoundOnAxis & { count: number; isWhole: boolean };
 
-/** The rows that aren't seen and are better than the last one that is, or have room below it. */
+/** The rows that come in once as many are shown of all: those that aren't seen yet. */
 export function joiningRows(seen: Row[], rows: Row[], room: number) {
   const known = new Set(seen.map(({ key }) => key));
-  const belongs = ({ rank }: Row, at: number) => (seen.length < room ? at < room : rank < lastOf(seen).rank);
-  return rows.filter((row, at) => !known.has(row.key) && belongs(row, at));
+  return rows.slice(0, room).filter(({ key }) => !known.has(key));
 }
 
 /** How many rows are kept, which are all but seldom; of longer ones, of which there are thousands, each takes time. */

@@ -1,7 +1,9 @@
 // The card of the candidates that are kept: each with its moves, what it reaches, its case and a note.
 import { Stopped } from "../../module/shared/faults.js";
 import { nameOf, withStar } from "../state/kept-lines.js";
-import { addressOf, emptyState, fitsAddress, type Candidate, type List, type State } from "../state/address.js";
+import {
+  addressOf, emptyState, fitsAddress, oneLine, type Candidate, type List, type State,
+} from "../state/address.js";
 import { lastOf, present } from "../shared/certain.js";
 import { copy, fmcOfAll, setUps } from "../shared/copying.js";
 import {
@@ -18,6 +20,9 @@ import { tellAt, withoutMoving } from "../shared/view.js";
 import { MOST_ARE_KEPT, NO_ROOM, unanswered, wordsOfFault } from "../shared/words.js";
 import type { Calls } from "../shared/questions.js";
 import type { KeptWalk } from "../answers/examine.js";
+
+/** How many signs of a note a line has at the most. */
+const SIGNS_OF_LINE = 40;
 
 const saidOf = ({ parts, next }: Candidate) =>
   spoken(bracketed(parts)) + (next === "" ? "" : `, ${stateOf(stepNamed(next))}`);
@@ -192,25 +197,34 @@ export class KeptCandidates {
     const [name, said] = [nameOf(candidate), saidOf(candidate)];
     const act = (word: string, control: string, click: () => void, more: Attributes = {}) => button(word,
       { class: "quiet", "data-control": `${control} ${name}`, "aria-label": `${word}: ${said}`, click, ...more });
-    const field = element("input", {
-      class: "note-field", value: note, maxlength: LONGEST_NOTE, placeholder: "Note", autocomplete: "off",
+    const field = element("textarea", {
+      class: "note-field", maxlength: LONGEST_NOTE, placeholder: "Note", autocomplete: "off",
+      // as large as the note, where the browser can't say that itself
+      cols: Math.max(8, Math.min(note.length, SIGNS_OF_LINE)), rows: 1 + Math.floor(note.length / SIGNS_OF_LINE),
       "data-control": `note ${name}`,
       "aria-label": `Note: ${said}`,
-      change: (event) => {
-        this.acts.change(this.#candidates.with(at, { ...this.#candidates[at], note: event.target.value.trim() }));
+      change: ({ target: { value } }) => {
+        this.acts.change(this.#candidates.with(at, { ...this.#candidates[at], note: oneLine(value).trim() }));
       },
     });
+    field.value = note;
+    field.addEventListener("keydown", (event) => {
+      if (event.key !== "Enter" || event.isComposing) return;
+      event.preventDefault();
+      field.dispatchEvent(new Event("change"));
+    });
     this.#notes[at] = field;
-    const isUnfolded = this.#unfolded.has(name);
+    const [isUnfolded, isCompared] = [this.#unfolded.has(name), this.#compared.includes(name)];
     const cubes = walk === null ? [] : [element("dl", { hidden: !isUnfolded }, ...setUps(walk.now.lines, `: ${said}`))];
     return element("li", {},
       stepOf(parts, walk),
       element("span", { class: "row" },
         field,
-        act("Go on", "on", () => this.#goOn(candidate, walk)),
-        act("Compare", "compare", () => this.#choose(name), { "aria-pressed": String(this.#compared.includes(name)) }),
-        act("Set-ups", "cubes", () => this.#unfold(name), { "aria-expanded": String(isUnfolded) }),
-        act("Remove", "away", () => this.#remove(at))),
+        element("span", { class: "row" },
+          act("Go on", "on", () => this.#goOn(candidate, walk)),
+          act("Compare", "compare", () => this.#choose(name), { "aria-pressed": String(isCompared) }),
+          act("Set-ups", "cubes", () => this.#unfold(name), { "aria-expanded": String(isUnfolded) }),
+          act("Remove", "away", () => this.#remove(at)))),
       ...cubes);
   }
 

@@ -4,8 +4,8 @@ import { thrownError, lastOf } from "../shared/certain.js";
 import { copy, fmcOf, setUps } from "../shared/copying.js";
 import { announce, button, counted, element, inner, part, spoken, tell, type PageElement } from "../shared/element.js";
 import {
-  bracketed, isReduced, lastSideOf, movesOn, newlyReached, onOtherSides, otherSide, saidToBeReached, sidesOf, statesOf,
-  type Part, type Side,
+  bracketed, furthestOf, isReduced, lastSideOf, movesOn, newlyReached, onOtherSides, otherSide, saidToBeReached,
+  sidesOf, statesOf, type Part, type Side,
 } from "../shared/offered-steps.js";
 import { withCases } from "../shared/passage.js";
 import { NO_STEP_AFTER_DR, showFault, wordsOfLeftOut } from "../shared/words.js";
@@ -27,7 +27,7 @@ function endOf({ parts, facts, reached, totals }: Walk, whole: string) {
   if (parts.length === 0) return "";
   if (lastOf(facts).solved) return `Solved: ${total}${left < lastOf(totals) ? `, ${left} without brackets` : ""}.`;
   if (!isReduced(lastOf(reached))) return "";
-  const states = statesOf(lastOf(reached)).filter((state) => state.startsWith("DR"));
+  const states = furthestOf(statesOf(lastOf(reached)));
   const are = states.length === 1 ? "is" : "are";
   return `${listed(states)} ${are} reached: ${total}. ${NO_STEP_AFTER_DR}: go on by hand.`;
 }
@@ -88,7 +88,6 @@ export class LineSoFar {
     takeLines(part("own"), reader);
     part("switch").addEventListener("click", () => this.turn(otherSide(this.#side)));
     part("bar-undo").addEventListener("click", () => this.undoStep());
-    part("clear").addEventListener("click", () => this.#undo([], "normal"));
     part("keep-line").addEventListener("click", () => acts.star());
     for (const name of ["joined", "fmc"]) {
       part(`copy-${name}`).addEventListener("click", (event) => copy(part(name).textContent, event.currentTarget));
@@ -115,7 +114,7 @@ export class LineSoFar {
   }
 
   undoStep() {
-    if (this.#parts.length > 0) this.#undo(this.#parts.slice(0, -1));
+    if (this.#parts.length > 0) this.#replace(this.#parts.length - 1, [], 1);
   }
 
   /** Shows the parts at once; what the engine says of them comes by `describe`. */
@@ -142,8 +141,6 @@ export class LineSoFar {
       part("set-ups").replaceChildren();
     }
     for (const name of OF_MOVES) part(name).hidden = parts.length === 0;
-    // one step is removed beside it
-    part("clear").hidden = parts.length < 2;
   }
 
   /** Shows what each step reaches, how long it is, and the whole. @param whole without brackets */
@@ -195,7 +192,7 @@ export class LineSoFar {
       element("span", { class: "step" }, ...Object.values(this.#words[index])),
       element("span", { class: "acts" },
         act("Edit", () => this.#edit(index)), act("Remove", () => this.#replace(index, [], 1)),
-        act("Other side", () => this.#replace(index, [onOtherSides(each)], 2))));
+        act("Other side", () => this.#turnStep(index, onOtherSides(each)))));
   }
 
   #edit(index: number) {
@@ -226,13 +223,18 @@ export class LineSoFar {
     field.setSelectionRange(text.length, text.length);
   }
 
-  /** Puts parts in place of a step: the last is to reach what that one reached. The focus, if it was in its row, goes
-   * to the last row then. @param focused the place of the button that has it then */
-  #replace(index: number, added: Part[], focused: number) {
-    const isWithin = part("line-list").children[index].contains(document.activeElement);
+  /** Has a step made on the other side: moves by hand go on there if it is the last one. */
+  #turnStep(index: number, turned: Part) {
+    this.#replace(index, [turned], 2, index === this.#parts.length - 1 ? lastSideOf(turned) : undefined);
+  }
+
+  /** Puts parts in place of a step: the last is to reach what that one reached. The focus, if it was in a row, goes to
+   * the last one of these then. @param focused the place of the button that has it then */
+  #replace(index: number, added: Part[], focused: number, side?: Side) {
+    const isWithin = part("line-list").contains(document.activeElement);
     const reached = added.map((_, at) => (at === added.length - 1 ? this.#reached[index] : []));
     this.#wanted = this.#reached.toSpliced(index, 1, ...reached);
-    this.#undo(this.#parts.toSpliced(index, 1, ...added));
+    this.#undo(this.#parts.toSpliced(index, 1, ...added), side);
     const place = index + Math.max(added.length, 1) - 1;
     const row = part("line-list").children[Math.min(place, this.#parts.length - 1)];
     if (isWithin) row?.querySelectorAll("button")[focused].focus({ preventScroll: true });

@@ -89,10 +89,10 @@ export class DeskStrip {
   add(sheets: NewSheet[]) {
     if (sheets.length === 0) return;
     const [before, left] = [this.#desk.sheets.length, this.#desk.add(sheets)];
-    const count = this.#desk.sheets.length - before;
+    const count = counted(this.#desk.sheets.length - before, before === 0 ? "scramble" : "more scramble");
     this.show();
     if (left > 0) tell(part("desk-note"), `The desk is full: ${counted(left, "scramble")} had no room.`);
-    else announce(`${counted(count, "more scramble")} ${count === 1 ? "is" : "are"} on the desk.`);
+    else announce(`${count} ${/^1 /.test(count) ? "is" : "are"} on the desk.`);
   }
 
   /** Takes the scrambles of another page, and shows the first one. */
@@ -105,11 +105,14 @@ export class DeskStrip {
   /** Shows what is on the desk, if that is more than what the page shows. */
   show() {
     const { sheets, shown, isKept } = this.#desk;
-    const focused = [...this.#chips.children].findIndex((each) => each === document.activeElement);
-    this.#chips.replaceChildren(...sheets.map((each, at) => chipOf(each, at, each === shown)));
-    const chip = this.#chips.children[focused];
+    const { children } = this.#chips, focused = [...children].findIndex((each) => each === document.activeElement);
+    const chips = sheets.map((each, at) => chipOf(each, at, each === shown));
+    if (chips.length !== children.length) this.#chips.replaceChildren(...chips);
+    // those that stay as they are stay where they are too, since the press that ends a note may be on one
+    else for (const [at, each] of chips.entries()) if (!each.isEqualNode(children[at])) children[at].replaceWith(each);
+    const chip = children[focused];
     if (chip instanceof HTMLElement) chip.focus({ preventScroll: true });
-    part("desk").hidden = sheets.length < (shown === null ? 1 : 2) && isKept;
+    part("desk").hidden = sheets.length < (shown !== null && isKept ? 2 : 1);
     part("desk-remove").hidden = shown === null;
     tell(part("desk-note"), isKept || sheets.length === 0 ? "" : NOT_KEPT);
   }

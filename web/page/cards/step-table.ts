@@ -26,14 +26,14 @@ export const caseOfStep = ({ badEdges, case: cases }: Facts, { axis, needs }: Of
  * the page. All are shown together if they come soon. */
 export async function cubeWithOffers(
   calls: Calls, typed: { text: string; parts: Part[] },
-): Promise<{ cube: Examined | Unexamined; offers: Promise<Offer[]>; isWhole: boolean }> {
+): Promise<{ cube: Examined | Unexamined; offers: Offer[] | Promise<Offer[]>; isWhole: boolean }> {
   let offers: Promise<Offer[]> = Promise.resolve([]);
   const cube = new Promise<Examined | Unexamined>((settle, refuse) => {
     offers = calls.ask("examine", typed, settle);
     offers.catch(refuse);
   });
   const isWhole = await comesSoon(offers);
-  return { cube: await cube, offers, isWhole };
+  return { cube: await cube, offers: isWhole ? await offers : offers, isWhole };
 }
 
 const wordsOfAnew = (state: string) => `Going on from here, this ${state} given up`;
@@ -69,13 +69,14 @@ export class StepTable {
     part("choices").inert = true;
   }
 
-  /** Begins with another cube, of which is told what it reaches; steps that give up a reduction are folded once. */
-  begin({ reached }: Cube) {
+  /** Begins with another cube, of which is told what it reaches; steps that give up a reduction are folded once. What
+   * is solved has none, nor has a page that begins, which is told here too. */
+  begin({ reached, facts: { solved } }: Cube) {
     const states = statesOf(reached);
     part("reached").hidden = states.length === 0;
     part("reached").replaceChildren(...(states.length === 0 ? [] : ["Reached: "]), ...states.flatMap((state) =>
       [element("span", { class: "chip", "data-marks": state }, state), " "]));
-    const isOver = isReduced(reached);
+    const isOver = isReduced(reached) && !solved;
     if (part("steps-anew").hidden === isOver) part("steps-fold").open = !isOver;
     tell(part("steps-anew"), isOver ? wordsOfAnew("DR") : "");
   }

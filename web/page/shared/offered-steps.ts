@@ -51,12 +51,16 @@ export const openSteps = (reached: string[]) =>
 export const statesOf = (reached: string[]) => [...new Set(reached.map((name) => stateOf(stepNamed(name))))];
 export const isReduced = (reached: string[]) => reached.some(isReduction);
 
-/** What a step of a line newly reaches; a reduction says the orientations that hold with it. */
+/** Of what holds only the reductions, which say the orientations that hold with them; all if there are none. */
+export function furthestOf(states: string[]) {
+  const reductions = states.filter((state) => state.startsWith("DR"));
+  return reductions.length > 0 ? reductions : states;
+}
+
+/** What a step of a line newly reaches. */
 export function newlyReached({ reached }: { reached: string[][] }, index: number) {
   const before = statesOf(reached[index]);
-  const fresh = statesOf(reached[index + 1]).filter((state) => !before.includes(state));
-  const reductions = fresh.filter((state) => state.startsWith("DR"));
-  return reductions.length > 0 ? reductions : fresh;
+  return furthestOf(statesOf(reached[index + 1]).filter((state) => !before.includes(state)));
 }
 
 /** The same as it is said of a step: of one that solves, only that. */
@@ -86,7 +90,9 @@ export function sidesOf({ normal, inverse }: Part): Side | "both" {
   return inverse === "" ? "normal" : "inverse";
 }
 
-export const lastSideOf = ({ inverse }: Part): Side => (inverse === "" ? "normal" : "inverse");
+/** On which side one goes on after a step on some sides: on the normal one, but for a step on the inverse alone. */
+export const sideAfter = (sides: Side | "both"): Side => (sides === "inverse" ? "inverse" : "normal");
+export const lastSideOf = (part: Part) => sideAfter(sidesOf(part));
 
 /** How far a case such as `4c2e` is, to sort by: an edge costs about as much as a corner. */
 export const farnessOf = (name: string) => (name.match(/\d+/g) ?? []).reduce((sum, count) => sum + Number(count), 0);

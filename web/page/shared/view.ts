@@ -5,6 +5,7 @@ import type { State } from "../state/address.js";
 
 const EDGE = 16;
 export const areBeside = () => matchMedia("(min-width: 60rem)").matches;
+export const isAtTop = () => areBeside() && scrollY === 0;
 export const isNarrow = () => matchMedia("(max-width: 37.5rem)").matches;
 
 export const isBare = ({ scramble, parts }: State) => scramble.trim() === "" && parts.length === 0;
@@ -60,17 +61,17 @@ export function setUsable(usable: boolean) {
 }
 
 /** Scrolls to what follows a step: on a narrow page to the results, after the last step to the line. */
-function scrollToNext(isFinished: boolean, isAtTop: boolean) {
+function scrollToNext(isFinished: boolean, stays: boolean) {
   if (!areBeside()) return part(isFinished ? "line" : "results").scrollIntoView({ block: "start" });
-  if (!isAtTop) scrollTo({ top: 0, behavior: "instant" });
+  if (!stays) scrollTo({ top: 0, behavior: "instant" });
   // no further than that, so that the nets stay in view
   if (isFinished) part("copy-fmc").scrollIntoView({ block: "nearest" });
 }
 
 /** Has what follows a step come into view and have the focus: the line, which is said to end so, if no step follows. */
-export function showStart(isFinished: boolean, table: { focus: () => void }, isAtTop: boolean) {
+export function showStart(isFinished: boolean, table: { focus: () => void }, stays: boolean) {
   // first, since the page is laid out for it, and the focus changes the marks
-  scrollToNext(isFinished, isAtTop);
+  scrollToNext(isFinished, stays);
   if (!isFinished) return table.focus();
   part("line-heading").focus({ preventScroll: true });
   announce(part("finished").textContent);

@@ -122,10 +122,12 @@ const WORDS_OF_DOUBTS: Record<string, (word: string, named: Turns | null) => str
   "small letters": (word) => `“${word}” is read as a wide turn: face turns have capital letters`,
   comment: () => "moves and a comment may be taken for each other",
   repetition: (word) => `“${word}” may say that moves are made several times, and they are read once`,
-  insertion: (word) => `“${word}” may say that moves belong into others, and they are read in the text's order`,
+  insertion: (word) => (/^[UDRLFB][23'’]*$/i.test(word)
+    ? `beside “${word}” a move, or a turn of the cube, may be missing`
+    : `“${word}” may say that moves belong into others, and they are read in the text's order`),
   "step or scramble": () => "this line may be of a scramble, and is read as a step",
   signs: (word) => `“${word}” may stand for other moves than are read`,
-  "another attempt": () => "the scramble is solved before this, and another attempt may begin here",
+  "another attempt": () => "another attempt may begin here",
   "a part": () => "as a whole this doesn't solve the scramble, but a part of it does",
 };
 
