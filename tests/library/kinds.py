@@ -126,12 +126,12 @@ def readings(tally: Tally) -> None:
 
 
 def slips(tally: Tally) -> None:
-    """A solution with a slip is unsolved, and mostly in no doubt."""
+    """A solution with a slip is unsolved, and mostly in no doubt, if its text isn't for another reason."""
     draw, doubts, count = random.Random(1), 0, 0
     for kind in listed():
         checks = nissy.check_attempts(kind.text)
         solution = checks[0].attempt.solution
-        if verdict(kind) != "right" or kind.wanted != [True] or solution is None:
+        if verdict(kind) != "right" or kind.wanted != [True] or solution is None or checks[0].attempt.doubt:
             continue
         places = [at for sign, at in zip(solution.line, solution.places) if sign in "URFDLB"]
         for at in draw.sample(places, min(len(places), 5)):
@@ -208,11 +208,11 @@ def doubts(tally: Tally) -> None:
         "R U F\n\nF', U', R",
         "R U F\n\nF' U' R // on normal",
         "1. R U F\n\nSolutions:\n1. F' U' R'",
-        # a turn was lost, but nothing shows it: no sign, two signs, a turn in another comment, another turn, a face
+        # a turn was lost, but nothing shows it: no sign, two signs, a turn in another comment, one of another face, a face
         "R U F D\n\nD' F' // EO\nR' // finish",
         "R U F D B L\n\nL' B' D' 8 // EO\nU' R' ? // finish",
         "R U F D\n\nD' // EO with U'\nF' // DR\nR' // finish",
-        "R U F D\n\nD' F' // EO, then U2\nR' // finish",
+        "R U F D\n\nD' F' // EO, then L2\nR' // finish",
         "R U F D'\n\nF' U' // EO :D\nR' // finish",
     ):
         tally.equal(f"no doubt of {text!r}", [it.doubt for it in nissy.check_attempts(text)], [None])
