@@ -56,18 +56,22 @@ enum nissy_doubt {
                                   * words, as in "R U layer" or "EO F" */
     NISSY_REPETITION = 7,        /* moves are said to be made several times, as in "(R U)x2", at the end of a step "R U x2", or in a comment */
     NISSY_INSERTION = 8,         /* a step has a mark at which others belong, such as "[1]" between moves or "*" after them, or tells what belongs
-                                  * there, as "* = R U"; or it is said that moves are inserted, or that others are
-                                  * meant, which counts in each note after the scramble. Insertions and repetitions that are denied, as in "no
-                                  * insertion", and in a line without moves sides, as in "nothing on the inverse", are none. Of a check: a
-                                  * comment has a turn, written with "'" or "2" or neither, with which, beside that step, all steps solve; at most
-                                  * twelve are looked at, each on a line of its own, of at most NISSY_MOST_STEPS bytes in all */
+                                  * there, as "* = R U"; or it is said that moves are inserted, or in a line without moves an algorithm has its
+                                  * name, such as "T perm"; or it is said that others are meant, which counts in each note after the scramble.
+                                  * Insertions and repetitions that are denied, as in "no insertion", and in a line without moves sides, as in
+                                  * "nothing on the inverse", are none. Of a check: a comment has the letter of a face, capital or small, and with
+                                  * a turn of that face beside the step all steps solve; no letter, digit, ":", ";", "<" or "=" is beside it, but
+                                  * that 2 or 3 may follow. Or else, where the moves of a step begin, all solve once the whole cube is turned
+                                  * before that step. This is told only of at most twelve steps, each on a line of its own, of at most
+                                  * NISSY_MOST_STEPS bytes in all */
     /* 9, 10 and 13 are told of checks */
     NISSY_STEP_OR_SCRAMBLE = 11, /* a line after the scramble may be of it, or of another one. Of a check this counts also if it is solved */
     NISSY_SIGNS = 12             /* moves may be written by signs that aren't read so: by commas between some of them, by letters that look like
                                   * theirs, such as wide ones, or in a link; or so many have no apostrophe that these may have been lost, or one of
                                   * so many is a slice, whose letter F or B was taken for; or R' U' F stands at one end of a scramble, or a tab
-                                  * between some moves; of a check: a digit, "!", "?" or "|" behind a step, or one of the last three or
-                                  * "()" at its beginning, is the only such sign, and with a turn there all of at most twelve steps solve */
+                                  * between some moves; of a check: a digit, "!", "?", "|" or "&" with which begins what follows the moves of a step,
+                                  * or one of the last four before them, with blanks between at most, or "()" at an end of them, and no other side
+                                  * of a step has such a sign, and with a turn there all of at most twelve steps solve */
 };
 
 /* A line of such a text. The places are in bytes of the text, from 0, and don't fall from one to the next, nor from line to line. Its moves
@@ -76,8 +80,8 @@ typedef struct nissy_text_line {
     uint8_t kind;     /* one of nissy_line_kind */
     uint8_t solution; /* it is of the group that is the solution */
     uint8_t headed;   /* a head stands before head_end, such as "2." or "Scramble 2:": the first one of an attempt is its name */
-    uint8_t labelled; /* its label, from label_begin to label_end, says up to a colon that the solution follows */
-    uint8_t inverse;  /* it is said of this step that it is on the inverse, and it has no brackets */
+    uint8_t labelled; /* its label, from label_begin to label_end, says up to a colon that the solution follows, but not as "EO sol" */
+    uint8_t inverse;  /* it is said of this step, and not denied, that it is on the inverse, and it has no brackets */
     uint8_t doubt;    /* one of nissy_doubt: of a line of the scramble or of the solution; of any step or note if it can't be seen which of them are
                        * the solution. It counts if no solution solves the scramble, NISSY_STEP_OR_SCRAMBLE always */
     uint64_t attempt; /* which attempt, from 0 */
@@ -197,8 +201,10 @@ typedef struct nissy_part_answer {
 nissy_part_answer nissy_solving_part(const uint8_t *scramble, size_t scramble_length, const uint8_t *steps, size_t steps_length);
 
 /* What makes one doubt a check too. Another attempt may begin where the third is told, though all is solved: the scramble is by itself; or all before
- * a step of the solution is, the first but one whose moves have 40 bytes or more, as most scrambles, and after which nothing is said; or two such
- * steps that aren't of the solution stand one after another, and neither solves. */
+ * a step of the solution is, which isn't its first one, and whose moves have 20 bytes or more; or two steps stand one after another that aren't of
+ * the solution, whose moves have 40 bytes or more, and after which nothing is said, and neither solves. What isn't solved has another attempt in it,
+ * if nothing else makes one doubt it, at a step whose moves have 20 bytes or more, if the steps of the solution after it solve them as a scramble.
+ * Of the steps of 20 bytes or more that may be such the first twelve are tried, and the first that is one is told. */
 #define NISSY_A_PART 9          /* a part of the steps solves the scramble, as nissy_solving_part tells */
 #define NISSY_WHICH_SCRAMBLE 10 /* it can't be seen which of the known scrambles it is a solution of, or it solves another one */
 #define NISSY_ANOTHER_ATTEMPT 13
@@ -216,12 +222,12 @@ typedef struct nissy_attempt_check {
     uint64_t fault_at;        /* after NISSY_FAULT where it stands in the text; NISSY_NO_PLACE of a known scramble, or if nothing is at fault */
     uint64_t doubt_at;        /* where the doubt is seen; NISSY_NO_PLACE if there is none */
     uint8_t doubt;            /* of what is solved NISSY_STEP_OR_SCRAMBLE, or else NISSY_ANOTHER_ATTEMPT, or else NISSY_SEVERAL_SOLUTIONS by its
-                               * steps, as told above; if it is none of these, that of its first line that has one, whatever it is; else of what
-                               * isn't solved NISSY_A_PART, or NISSY_INSERTION or NISSY_SIGNS if it would be with a turn that the text shows
-                               * beside a step, or none. With known scrambles also
-                               * NISSY_WHICH_SCRAMBLE of what has none; of what isn't solved, before these, NISSY_ANOTHER_SCRAMBLE, as told
-                               * below; and after these NISSY_WHICH_SCRAMBLE, if its solution doesn't solve its own one, but another of the
-                               * first 64 */
+                               * steps, as told above; if it is none of these, that of its first line that has one, whatever it is; else of what isn't
+                               * solved NISSY_ANOTHER_SCRAMBLE if its scramble is, by itself, or else NISSY_A_PART, or else NISSY_INSERTION or
+                               * NISSY_SIGNS if it would be with a turn that the text shows beside a step, or else NISSY_INSERTION if it would be with
+                               * the cube turned before one, or else NISSY_ANOTHER_ATTEMPT if one stands in it, or none. With known scrambles also
+                               * NISSY_WHICH_SCRAMBLE of what has none; of what isn't solved, before these, NISSY_ANOTHER_SCRAMBLE, as told below; and
+                               * after these NISSY_WHICH_SCRAMBLE, if its solution doesn't solve its own one, but another of the first 64 */
     uint8_t doubted;          /* the doubt counts: nothing is at fault, and there is no solution that solves, or it is NISSY_STEP_OR_SCRAMBLE or one
                                * that the check tells, NISSY_ANOTHER_ATTEMPT or NISSY_SEVERAL_SOLUTIONS. One of its lines that is
                                * NISSY_SEVERAL_SOLUTIONS doesn't count if it is solved */
