@@ -1,10 +1,11 @@
 -- At a place of a text no face stands if none may begin there.
-use Rattle.std.proofs.Common.{◌≡◌, ℕ, zero, suc, Bool, true, false, List, [], ◌∷◌, drop, refl, ap, arith, ◌+◌}
+use Rattle.std.proofs.Common.{◌≡◌, ℕ, zero, suc, Bool, false, List, [], ◌∷◌, drop, refl, ap, arith, ◌+◌}
 use Rattle.std.specs.Prelude.{◌||◌, slice_get, slice_index}
 use Rattle.std.proofs.lemmas.Bool.{and_left, and_right}
 use Rattle.niss_moves.specs.declared.turn.Face.{Face}
 use Rattle.niss_moves.specs.declared.turn.Face.TheVariants.{U, D, R, L, F, B}
 use Rattle.niss_text.specs.declared.text_line.TextLine.{TextLine}
+use Rattle.niss_embed.proofs.CornerLines.{or_left, or_right}
 use Rattle.niss_embed.specs.ShownTurn.{is_apart, is_face_letter, is_letter_of, step_at, step_behind}
 unfoldable use Rattle.niss_embed.specs.ShownTurn.{stands_at}
 
@@ -12,34 +13,26 @@ unfoldable use Rattle.niss_embed.specs.ShownTurn.{stands_at}
 abbrev one_of : (Face → Bool) → Bool
 one_of is = is U || (is D || (is R || (is L || (is F || is B))))
 
-or_first : (a b : Bool) → (a || b) ≡ false → a ≡ false
-or_first false b e = refl
-or_first true b e = e
-
-or_later : (a b : Bool) → (a || b) ≡ false → b ≡ false
-or_later false b e = e
-or_later true b e = absurd (cc e)
-
 -- what is known of the letters after the first ones
 not_u : (is : Face → Bool) → one_of is ≡ false → (is D || (is R || (is L || (is F || is B)))) ≡ false
-not_u is none = or_later (is U) (is D || (is R || (is L || (is F || is B)))) none
+not_u is none = or_right (is U) (is D || (is R || (is L || (is F || is B)))) none
 
 not_d : (is : Face → Bool) → one_of is ≡ false → (is R || (is L || (is F || is B))) ≡ false
-not_d is none = or_later (is D) (is R || (is L || (is F || is B))) (not_u is none)
+not_d is none = or_right (is D) (is R || (is L || (is F || is B))) (not_u is none)
 
 not_r : (is : Face → Bool) → one_of is ≡ false → (is L || (is F || is B)) ≡ false
-not_r is none = or_later (is R) (is L || (is F || is B)) (not_d is none)
+not_r is none = or_right (is R) (is L || (is F || is B)) (not_d is none)
 
 not_l : (is : Face → Bool) → one_of is ≡ false → (is F || is B) ≡ false
-not_l is none = or_later (is L) (is F || is B) (not_r is none)
+not_l is none = or_right (is L) (is F || is B) (not_r is none)
 
 none_is : (is : Face → Bool) → one_of is ≡ false → (face : Face) → is face ≡ false
-none_is is none U = or_first (is U) (is D || (is R || (is L || (is F || is B)))) none
-none_is is none D = or_first (is D) (is R || (is L || (is F || is B))) (not_u is none)
-none_is is none R = or_first (is R) (is L || (is F || is B)) (not_d is none)
-none_is is none L = or_first (is L) (is F || is B) (not_r is none)
-none_is is none F = or_first (is F) (is B) (not_l is none)
-none_is is none B = or_later (is F) (is B) (not_l is none)
+none_is is none U = or_left (is U) (is D || (is R || (is L || (is F || is B)))) none
+none_is is none D = or_left (is D) (is R || (is L || (is F || is B))) (not_u is none)
+none_is is none R = or_left (is R) (is L || (is F || is B)) (not_d is none)
+none_is is none L = or_left (is L) (is F || is B) (not_r is none)
+none_is is none F = or_left (is F) (is B) (not_l is none)
+none_is is none B = or_right (is F) (is B) (not_l is none)
 
 pub none_lettered : (text : List ℕ) (at : ℕ) → is_face_letter (slice_index text at) ≡ false → (face : Face) → stands_at text face at ≡ false
 unfolding stands_at

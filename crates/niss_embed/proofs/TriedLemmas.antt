@@ -1,9 +1,10 @@
 -- Which numbers are tried, and the first of them that holds.
-use Rattle.std.proofs.Common.{◌≡◌, ◌∙◌, ◌⊎◌, ℕ, ◌+◌, ◌<◌, ◌≤◌, ◌&&◌, nat_lt, Bool, true, false, cond, None, Some, [], ◌∷◌, ◌++◌, length, refl, sym, ap, subst, inl, inr, arith, length-append}
+use Rattle.std.proofs.Common.{◌≡◌, ◌∙◌, ℕ, ◌+◌, ◌<◌, ◌≤◌, ◌&&◌, nat_lt, Bool, true, false, cond, None, Some, [], ◌∷◌, ◌++◌, length, refl, sym, ap, subst, arith, length-append}
 use Rattle.std.specs.List.{filter, range_with_len}
-use Rattle.std.proofs.lemmas.Bool.{cases_lt, ltb-true, ltb-false}
+use Rattle.std.proofs.lemmas.Bool.{ltb-true, ltb-false}
 use Rattle.std.proofs.lemmas.List.Elements.{filter-append}
 use Rattle.niss_search.proofs.CallerLemmas.{range_push}
+use Rattle.niss_embed.proofs.LostLemmas.{one_more}
 use Rattle.niss_embed.specs.Another.{IsFirstTried, IsTried, count_before}
 
 count_more : (is_so : ℕ → Bool) (n : ℕ) (b : Bool) → is_so n ≡ b → count_before is_so (n + 1) ≡ count_before is_so n + length (cond b (n ∷ []) [])
@@ -13,15 +14,6 @@ count_more is_so n b is =
     ∙ ap length (filter-append is_so (range_with_len 0 n) (n ∷ []))
     ∙ ap (λ c. length (filter is_so (range_with_len 0 n) ++ cond c (n ∷ []) [])) is
     ∙ length-append (filter is_so (range_with_len 0 n)) (cond b (n ∷ []) [])
-
-one_more : (P : ℕ → Type 0) (n : ℕ) → ((j : ℕ) → j < n → P j) → P n → (j : ℕ) → j < n + 1 → P j
-one_more P n before here j less = by_order (cases_lt j n)
-  where
-    by_order : (j < n) ⊎ (n ≤ j) → P j
-    by_order (inl low) = before j low
-    by_order (inr last) =
-        let same : n ≡ j = omega (arith, less, last) in
-        subst (λ (k : ℕ). P k) same here
 
 both_true : (x y : Bool) → (x && y) ≡ true → (x ≡ true) × (y ≡ true)
 both_true true y is = (refl, is)
