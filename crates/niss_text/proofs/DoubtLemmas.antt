@@ -1,6 +1,9 @@
 -- Letters that are written as moves are, and which doubt has which number.
-use Rattle.std.proofs.Common.{◌≡◌, ℕ, ◌+◌, ◌<◌, ◌≤◌, true, false, List, refl, sym, ◌∙◌, arith}
+use Rattle.std.proofs.Common.{◌≡◌, ℕ, ◌+◌, ◌<◌, ◌≤◌, true, false, List, length, map, refl, sym, ap, ◌∙◌, arith}
+use Rattle.std.specs.Prelude.{codes}
 use Rattle.std.proofs.lemmas.Bool.{false≢true}
+use Rattle.std.proofs.lemmas.List.{length-map}
+use Rattle.niss_text.specs.Kept.{small}
 use Rattle.niss_text.specs.declared.doubts.Doubt.{Doubt}
 use Rattle.niss_text.specs.declared.doubts.Doubt.TheVariants.{Nothing, AnotherScramble, SeveralSolutions, Side, Letters, SmallLetters, Comment, Repetition, Insertion, StepOrScramble, Signs}
 use Rattle.niss_text.specs.declared.sights.Sight.TheVariants.{Joined, Parted, Prime}
@@ -18,6 +21,17 @@ none_parted text from to prime none after before primed = record {
   apart = λ j far near seen k. absurd (false≢true (sym (none j (omega (arith, far)) near) ∙ seen));
   unprimed = λ unseen k. absurd (false≢true (sym (unseen prime after before) ∙ primed));
 }
+
+-- the words for a scramble in small letters
+pub small_word : (bytes : List ℕ) → bytes ≡ codes "Scramble" → map small bytes ≡ codes "scramble"
+small_word bytes e = ap (map small) e
+
+pub small_head : (bytes : List ℕ) → bytes ≡ codes "Scramble:" → map small bytes ≡ codes "scramble:"
+small_head bytes e = ap (map small) e
+
+-- bytes that are a word, but for capitals, are some
+pub some_spelled : (bytes word : List ℕ) → map small bytes ≡ word → 0 < length word → 0 < length bytes
+some_spelled bytes word e some = omega (arith, some, ap length e, length-map bytes small)
 
 pub is_nothing : (d : Doubt) → number_of d ≡ 0 → d ≡ Nothing
 is_nothing Nothing h = refl

@@ -1,5 +1,5 @@
 -- What makes one doubt that a line is read as it was meant.
-use Rattle.std.specs.Prelude.{◌≡◌, ℕ, ◌==◌, ◌+◌, ◌-◌, ◌<◌, ◌≤◌, ◌⊎◌, ◌&&◌, ◌||◌, Bool, true, false, not, if◌then◌else◌, List, slice_index}
+use Rattle.std.specs.Prelude.{◌≡◌, ℕ, ◌==◌, ◌+◌, ◌-◌, ◌<◌, ◌≤◌, ◌⊎◌, ◌&&◌, ◌||◌, Bool, true, false, not, if◌then◌else◌, List, slice_index, slice_range, codes}
 use Rattle.niss_text.specs.Signs.{is_digit, is_within}
 use Rattle.niss_text.specs.declared.doubts.Doubt.{Doubt}
 use Rattle.niss_text.specs.declared.doubts.Doubt.TheVariants.{Nothing, AnotherScramble, SeveralSolutions, Side, Letters, SmallLetters, Comment, Repetition, Insertion, StepOrScramble, Signs}
@@ -128,13 +128,18 @@ pub record IsUncommentedStep (line : TextLine) : Type 0 where
   pub kind : line.kind ≡ 3
   pub comment : line.comment ≡ line.end
 
+-- the head of a line, or its label, is the word for a scramble
+abbrev pub IsCalledScramble : List ℕ → TextLine → Type 0
+IsCalledScramble text line = (slice_range text line.begin line.head_end ≡ codes "Scramble:")
+    ⊎ (slice_range text line.label_begin line.label_end ≡ codes "Scramble")
+
 -- What is said to make a line doubtful stands there, and nothing at its end. Nothing is said of a line before a
--- scramble, of another scramble only in one, of several solutions only in a step, of moves in comments only in either,
--- of small letters only in a scramble, or in a step without a capital one. A line of the scramble or of the solution of which
+-- scramble, of another scramble only in one, of several solutions only in a step, of moves in comments in either or in
+-- a note, of small letters only in a scramble, or in a step without a capital one. A line of the scramble or of the solution of which
 -- nothing is said has no letters together that aren't written as moves, and no number of times after brackets; one of
 -- the scramble has no small letter of a turn either, and one of the solution none without a capital one, and no digit
 -- in square brackets among its moves. In both no comma stands among moves of which others are parted by blanks. Only a step
--- after which nothing is said may be of a scramble.
+-- after which nothing is said may be of a scramble, and one is that is called so.
 pub record IsDoubted (text : List ℕ) (line : TextLine) : Type 0 where
   pub place : (line.begin ≤ line.doubt_at) × (line.doubt_at ≤ line.end)
   pub number : (line.doubt ≤ 8) ⊎ ((11 ≤ line.doubt) × (line.doubt ≤ 12))
@@ -142,7 +147,7 @@ pub record IsDoubted (text : List ℕ) (line : TextLine) : Type 0 where
   pub before : line.kind < 2 → line.doubt ≡ 0
   pub another : line.doubt ≡ 1 → line.kind ≡ 2
   pub several : line.doubt ≡ 2 → line.kind ≡ 3
-  pub comment : line.doubt ≡ 6 → (2 ≤ line.kind) × (line.kind ≤ 3)
+  pub comment : line.doubt ≡ 6 → (2 ≤ line.kind) × (line.kind ≤ 4)
   pub small : line.doubt ≡ 5 → ((2 ≤ line.kind) × (line.kind ≤ 3)) × (sees text Small line.doubt_at ≡ true)
   pub no_capital : line.doubt ≡ 5 → line.kind ≡ 3 → HasNone text Capital line.moves line.comment
   pub letters : line.doubt ≡ 4 → sees text Joined line.doubt_at ≡ true
@@ -156,4 +161,5 @@ pub record IsDoubted (text : List ℕ) (line : TextLine) : Type 0 where
   pub commas : line.doubt ≡ 0 → (line.kind ≡ 2) ⊎ ((line.kind ≡ 3) × (line.is_solution ≡ 1)) →
       HasNone text Comma line.moves (line.comment - 2) ⊎ HasNone text Gap line.moves line.comment
   pub uncommented : line.doubt ≡ 11 → IsUncommentedStep line
+  pub called : IsUncommentedStep line → IsCalledScramble text line → line.doubt ≡ 11
   pub unmarked : line.doubt ≡ 0 → line.kind ≡ 3 → line.is_solution ≡ 1 → HasNone text Marked (line.moves + 1) line.comment

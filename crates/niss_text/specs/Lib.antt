@@ -2,7 +2,10 @@ pub mod Numbers
 pub mod Signs
 pub mod Pieces
 pub mod Doubts
+pub mod Order
 pub mod Kept
+pub mod Titles
+pub mod Steps
 pub mod Said
 pub mod Lines
 pub mod Groups

@@ -39,11 +39,14 @@ struct Attempt {
     is_strange: bool,
     /// A sign may have been lost of the R' U' F at one end of its scramble.
     is_half_framed: bool,
+    /// Its scramble is called the solution, and isn't whole.
+    is_swapped: bool,
     solution: Option<usize>,
     /// Where a line after the scramble begins that may be of one.
     stray: Option<usize>,
-    /// Where a step begins that comes before one above it.
+    /// Where a step begins that comes before one above it, and where one that belongs at a mark above it.
     out_of_order: Option<usize>,
+    inserted: Option<usize>,
     first: usize,
     scramble_end: usize,
     length: usize,
@@ -78,6 +81,7 @@ fn first_attempt(
         is_formed: seen.has_name || solutions.has_lines,
         is_strange: is_unlike || is_given_again,
         is_half_framed: seen.is_half_framed(lines),
+        is_swapped: seen.is_solution && !seen.is_whole(),
         solution: if seen.has_several {
             None
         } else {
@@ -89,6 +93,7 @@ fn first_attempt(
             solutions.stray(scramble_end)
         },
         out_of_order: solutions.out_of_order(scramble_end),
+        inserted: solutions.inserted(scramble_end),
         first: seen.first,
         scramble_end,
         length: seen.length,
@@ -103,7 +108,9 @@ impl Attempt {
             is_strange: self.is_strange,
             is_half_framed: self.is_half_framed,
             is_stray: self.stray == Some(at),
+            is_swapped: self.is_swapped,
             is_out_of_order: self.out_of_order == Some(at),
+            is_put_into_others: self.inserted == Some(at),
         }
     }
 
@@ -349,9 +356,11 @@ fn solution_alone(text: &[u8]) -> Attempt
         is_formed: true,
         is_strange: false,
         is_half_framed: false,
+        is_swapped: false,
         solution: solutions.group(),
         stray: None,
         out_of_order: solutions.out_of_order(0),
+        inserted: solutions.inserted(0),
         first: 0,
         scramble_end: 0,
         length: text.len(),

@@ -1,6 +1,6 @@
 //! What makes one doubt that a line is read as it was meant.
-ghost use Rattle.std.specs.Prelude.{◌≡◌, ◌≤◌, ◌<◌, ◌+◌, ◌-◌, ◌⊎◌, ℕ, true, length, slice_range, IfSome};
-ghost use Rattle.niss_text.specs.Doubts.{IsDoubted, IsAsWritten, IsUncommentedStep, HasNone, number_of, sees};
+ghost use Rattle.std.specs.Prelude.{◌≡◌, ◌≤◌, ◌<◌, ◌+◌, ◌-◌, ◌⊎◌, ℕ, true, false, length, slice_range, IfSome};
+ghost use Rattle.niss_text.specs.Doubts.{IsDoubted, IsAsWritten, IsCalledScramble, IsUncommentedStep, HasNone, number_of, sees};
 ghost use Rattle.niss_text.specs.Doubts.{is_letter as is_plain_letter};
 ghost use Rattle.niss_text.specs.Signs.{is_letter};
 ghost use Rattle.niss_text.specs.Said.{DeniesNothing, HasWord, HasNoSlashes, IsDenied, IsOnInverse, IsPlainlyOnInverse, IsSided, Names};
@@ -17,8 +17,9 @@ use crate::marks::{
     begin_with_letter_of_words, column_at, defined_mark, has_moves_aside, has_slice, is_mark,
     is_no_count, letter_of_words, times_at_end, times_said,
 };
-use crate::said::{Said, doubt_said, first_said, names};
+use crate::said::{doubt_said, doubt_said_beside, names};
 use crate::sights::{Sight, first_seen};
+use crate::step_order::calls_scramble;
 use crate::text_line::{LineKind, TextLine, flag};
 use crate::words::{Wanted, says};
 
@@ -59,8 +60,12 @@ pub struct Sheet {
     pub is_half_framed: bool,
     /// The line may be of a scramble, though it stands after one.
     pub is_stray: bool,
+    /// Its scramble is called the solution, so that a step may be the scramble.
+    pub is_swapped: bool,
     /// It is a step that comes before one above it, by what their labels say.
     pub is_out_of_order: bool,
+    /// It has the number of a mark between the moves of a step above it.
+    pub is_put_into_others: bool,
 }
 
 impl Doubt {
@@ -115,6 +120,7 @@ fn doubt_of_step(text: &[u8], told: &TextLine, slashes: usize, sheet: Sheet) -> 
     ensures capital { result.0 ≡ Nothing → HasNone text.now Capital told.now.moves told.now.comment →
         HasNone text.now Small told.now.moves told.now.comment }
     ensures unmarked { result.0 ≡ Nothing → HasNone text.now Marked (told.now.moves + 1) told.now.comment }
+    ensures ordered { result.0 ≡ Nothing → sheet.is_out_of_order ≡ false }
 {
     if has_moves_aside(&text[slashes..told.end]) {
         return (Doubt::Comment, slashes);
@@ -180,13 +186,15 @@ fn doubt_of_scramble(text: &[u8], told: &TextLine, slashes: usize, sheet: Sheet)
 
 /// Whether a line is a step, and nothing stands after its moves.
 fn is_uncommented_step(told: &TextLine) -> bool
-    ensures { result ≡ true → IsUncommentedStep told.now }
+    ensures step { result ≡ true → IsUncommentedStep told.now }
+    ensures all { IsUncommentedStep told.now → result ≡ true }
 {
     told.is_a(LineKind::Step) && told.comment == told.end
 }
 
-/// Whether a line that isn't of the solution is called a scramble, but not that of the inverse, and is as long as one.
-fn is_called_scramble(text: &[u8], told: &TextLine) -> bool
+/// Whether a line that isn't of the solution is as long as a scramble, and words for one are in its label, but not for
+/// that of the inverse.
+fn is_like_scramble(text: &[u8], told: &TextLine) -> bool
     requires line { IsLine told.now.begin told.now }
     requires fits { told.now.end ≤ length text.now }
 {
@@ -195,6 +203,18 @@ fn is_called_scramble(text: &[u8], told: &TextLine) -> bool
         && are_long(told.moves, told.comment)
         && says(label, Wanted::Scramble)
         && !says(label, Wanted::Inverse)
+}
+
+/// Whether the head of a line or its label calls it a scramble.
+#[tactic(auto, using(crate::proofs::DoubtLemmas::small_word, crate::proofs::DoubtLemmas::small_head))]
+fn is_called_scramble(text: &[u8], told: &TextLine) -> bool
+    requires line { IsLine told.now.begin told.now }
+    requires fits { told.now.end ≤ length text.now }
+    ensures { IsCalledScramble text.now told.now → result ≡ true }
+{
+    calls_scramble(&text[told.begin..told.head_end])
+        || calls_scramble(&text[told.label_begin..told.label_end])
+        || is_like_scramble(text, told)
 }
 
 /// Whether some moves are as long as a scramble, and may have been printed otherwise: none is turned back, so that their
@@ -230,6 +250,7 @@ fn doubt_of_moves(text: &[u8], told: &TextLine, line: &Line, sheet: Sheet) -> (D
         HasNone text.now Comma told.now.moves (told.now.comment - 2) ⊎ HasNone text.now Gap told.now.moves told.now.comment }
     ensures step { number_of result.0 ≡ 11 → ⊥ }
     ensures unmarked { result.0 ≡ Nothing → told.now.kind ≡ 3 → HasNone text.now Marked (told.now.moves + 1) told.now.comment }
+    ensures ordered { result.0 ≡ Nothing → told.now.kind ≡ 3 → sheet.is_out_of_order ≡ false }
     ensures no_small { result.0 ≡ Nothing → told.now.kind ≡ 2 → HasNone text.now Small told.now.moves told.now.comment }
 {
     let letters = letters_at(text, told.moves, told.comment);
@@ -275,7 +296,7 @@ fn doubt_of(text: &[u8], told: &TextLine, line: &Line, sheet: Sheet) -> (Doubt, 
     ensures before { told.now.kind < 2 → number_of result.0 ≡ 0 }
     ensures another { number_of result.0 ≡ 1 → told.now.kind ≡ 2 }
     ensures several { number_of result.0 ≡ 2 → told.now.kind ≡ 3 }
-    ensures comment { number_of result.0 ≡ 6 → (2 ≤ told.now.kind) × (told.now.kind ≤ 3) }
+    ensures comment { number_of result.0 ≡ 6 → (2 ≤ told.now.kind) × (told.now.kind ≤ 4) }
     ensures small { result.0 ≡ SmallLetters → ((2 ≤ told.now.kind) × (told.now.kind ≤ 3)) × (sees text.now Small result.1 ≡ true) }
     ensures no_capital { result.0 ≡ SmallLetters → told.now.kind ≡ 3 → HasNone text.now Capital told.now.moves told.now.comment }
     ensures capital { result.0 ≡ Nothing → told.now.kind ≡ 3 → told.now.is_solution ≡ 1 →
@@ -289,21 +310,29 @@ fn doubt_of(text: &[u8], told: &TextLine, line: &Line, sheet: Sheet) -> (Doubt, 
     ensures commas { result.0 ≡ Nothing → (told.now.kind ≡ 2) ⊎ ((told.now.kind ≡ 3) × (told.now.is_solution ≡ 1)) →
         HasNone text.now Comma told.now.moves (told.now.comment - 2) ⊎ HasNone text.now Gap told.now.moves told.now.comment }
     ensures uncommented { number_of result.0 ≡ 11 → IsUncommentedStep told.now }
+    ensures called { IsUncommentedStep told.now → IsCalledScramble text.now told.now → number_of result.0 ≡ 11 }
+    ensures swapped { IsUncommentedStep told.now → sheet.is_swapped ≡ true → number_of result.0 ≡ 11 }
     ensures unmarked { result.0 ≡ Nothing → told.now.kind ≡ 3 → told.now.is_solution ≡ 1 → HasNone text.now Marked (told.now.moves + 1) told.now.comment }
+    ensures ordered { result.0 ≡ Nothing → told.now.kind ≡ 3 → told.now.is_solution ≡ 1 → sheet.is_out_of_order ≡ false }
+    ensures inserted { result.0 ≡ Nothing → told.now.kind ≡ 3 → sheet.is_put_into_others ≡ false }
 {
     if told.is_a(LineKind::Scramble) {
         return doubt_of_moves(text, told, line, sheet);
     }
-    if (sheet.is_stray || is_called_scramble(text, told)) && is_uncommented_step(told) {
+    if is_uncommented_step(told)
+        && (sheet.is_stray || sheet.is_swapped || is_called_scramble(text, told))
+    {
         return (Doubt::StepOrScramble, told.moves);
     }
-    let is_beside = sheet.has_solution && told.is_solution == 0;
-    if is_beside && told.is_a(LineKind::Note) {
-        return first_said(text, told.begin, told.end, Said::Beside);
-    }
     let is_after = told.is_a(LineKind::Step) || told.is_a(LineKind::Note);
-    if !is_after || is_beside {
+    if !is_after {
         return (Doubt::Nothing, told.end);
+    }
+    if sheet.is_put_into_others && told.is_a(LineKind::Step) {
+        return (Doubt::Insertion, told.moves);
+    }
+    if sheet.has_solution && told.is_solution == 0 {
+        return doubt_said_beside(text, told);
     }
     let said = doubt_said(text, told);
     if said.0 != Doubt::Nothing {
@@ -357,6 +386,9 @@ pub fn judged(text: &[u8], told: TextLine, line: &Line, sheet: Sheet) -> TextLin
     ensures doubt { IsDoubted text.now result }
     ensures placed { IsPlacedAs told result }
     ensures sided { HasNoSlashes (moves_in text.now result) → IsSided text.now result }
+    ensures swapped { IsUncommentedStep told → sheet.is_swapped ≡ true → result.doubt ≡ 11 }
+    ensures ordered { result.doubt ≡ 0 → result.kind ≡ 3 → result.is_solution ≡ 1 → sheet.is_out_of_order ≡ false }
+    ensures inserted { result.doubt ≡ 0 → result.kind ≡ 3 → sheet.is_put_into_others ≡ false }
 {
     let (doubt, at) = doubt_of(text, &told, line, sheet);
     TextLine {

@@ -1,11 +1,13 @@
 //! What stands in a text beside moves: numbers of moves, labels and comments.
-ghost use Rattle.std.specs.Prelude.{◌≡◌, ◌≤◌, ◌<◌, ◌+◌, ℕ, true, false, [], ◌∷◌, length, take, slice_index, slice_range, IfSome};
+ghost use Rattle.std.specs.Prelude.{◌≡◌, ◌≤◌, ◌<◌, ◌+◌, ℕ, true, false, [], ◌∷◌, length, take, drop, slice_index, slice_range, IfSome};
 ghost use Rattle.niss_text.specs.Signs.{IsSign, HasNoMoves, AreSigns, is_digit, is_spacing, ends_line, opens};
 ghost use Rattle.niss_text.specs.Pieces.{EndsWithColon};
 ghost use Rattle.niss_text.specs.Doubts.{is_letter as is_plain_letter};
 ghost use Rattle.niss_text.specs.Said.{HasNoBracket, HasNoSlashes};
 ghost use Rattle.niss_text.specs.Kept.{AreTurns, IsTurnUpTo, HasNoLetters, HasOnlyWords, IsCount, IsTitleEnd, words_of_count};
+ghost use Rattle.niss_text.specs.Titles.{HasTurn, IsTitle, begins_with_step, is_bullet, is_joined, turn_follows};
 
+use crate::sights::{byte_at, is_capital, is_letter as is_plain_letter};
 use crate::sign::{
     Class, Kind, digits_length, first_kind, from_place, is_letter, is_of_word, is_skipped,
     length_of, one_sign, trimmed,
@@ -178,6 +180,16 @@ pub fn margin(line: &[u8]) -> usize
     line.len() - rest.len()
 }
 
+/// Whether a label is the sign of a list: `-`, `*` or U+2022.
+#[tactic(auto, unfolding(crate::specs::Titles::is_bullet))]
+pub fn is_bullet(label: &[u8]) -> bool
+    ensures { result ≡ is_bullet label.now }
+{
+    let first = byte_at(label, 0);
+    let is_dot = first == 0xe2 && (byte_at(label, 1) == 0x80 && byte_at(label, 2) == 0xa2);
+    (label.len() == 1 && (first == b'-' || first == b'*')) || (label.len() == 3 && is_dot)
+}
+
 /// Whether a line goes on with a blank, or ends.
 pub fn is_parted(line: &[u8]) -> bool {
     let kind = first_kind(line);
@@ -285,17 +297,87 @@ fn words_before_colon(line: &[u8]) -> (usize, usize)
     (words, line.len() - rest.len() + colon)
 }
 
-/// The label in front of a line, unless its words may be moves, or the moves after it belong to the inverse and don't
-/// say so themselves.
+/// Whether a text begins with two turns of faces, or with a half one, each by itself.
+#[tactic(auto, unfolding(crate::specs::Titles::begins_with_step))]
+fn begins_with_step(text: &[u8]) -> bool
+    ensures { result ≡ begins_with_step text.now }
+{
+    is_capital(byte_at(text, 0))
+        && ((byte_at(text, 1) == b'2' && !is_plain_letter(byte_at(text, 2)))
+            || (byte_at(text, 1) == b' '
+                && (is_capital(byte_at(text, 2)) && !is_plain_letter(byte_at(text, 3)))))
+}
+
+/// Whether such turns follow a blank in a text.
+fn has_step(text: &[u8]) -> bool
+    ensures { (k : ℕ) → slice_index text.now k ≡ 32 → begins_with_step (drop (k + 1) text.now) ≡ true → result ≡ true }
+{
+    let mut rest = text;
+    while !rest.is_empty() {
+        let next = from_place(rest, 1);
+        if rest[0] == b' ' && begins_with_step(next) {
+            return true;
+        }
+        rest = next;
+    }
+    false
+}
+
+/// Whether a text begins with a blank or an opened bracket, and a turn of a face after it.
+#[tactic(auto, unfolding(crate::specs::Titles::turn_follows))]
+fn turn_follows(text: &[u8]) -> bool
+    ensures { result ≡ turn_follows text.now }
+{
+    matches!(byte_at(text, 0), b' ' | b'(')
+        && (is_capital(byte_at(text, 1)) && !is_plain_letter(byte_at(text, 2)))
+}
+
+/// Whether a turn of a face follows a blank or an opened bracket in a text.
+fn has_turn(text: &[u8]) -> bool
+    ensures { result ≡ true → HasTurn text.now }
+{
+    let mut rest = text;
+    while !rest.is_empty() {
+        if turn_follows(rest) {
+            return true;
+        }
+        rest = from_place(rest, 1);
+    }
+    false
+}
+
+/// Whether a byte after a colon says that this is of a time or a face, as in `0:45` and `:)`.
+fn is_joined(byte: u8) -> bool
+    ensures { result ≡ is_joined byte }
+{
+    byte >= b'!' && byte <= b'~'
+}
+
+/// Whether words before a colon are moves, and what is said of them, rather than the label of what follows the colon.
+fn is_step(words: &[u8], after: &[u8]) -> bool
+    ensures { result ≡ false → IsTitle words.now after.now }
+{
+    if has_turn(after) {
+        return false;
+    }
+    begins_with_step(words) || (is_joined(byte_at(after, 0)) && has_step(words))
+}
+
+/// The label in front of a line, unless its words may be moves, or begin with some and none follow them, or the moves
+/// after it belong to the inverse and don't say so themselves.
 pub fn label_of(line: &[u8]) -> Option<Label>
     ensures fits { IfSome result (λ label. label.length ≤ length line.now) }
     ensures some { IfSome result (λ label. 0 < label.words) }
     ensures end { IfSome result (λ label. IsTitleEnd (slice_range line.now label.words label.length)) }
     ensures colon { IfSome result (λ label. EndsWithColon (take label.length line.now)) }
     ensures words { IfSome result (λ label. is_plain_letter (slice_index line.now label.words) ≡ false) }
+    ensures title { IfSome result (λ label. IsTitle (take label.words line.now) (drop label.length line.now)) }
 {
     let (words, length) = words_before_colon(line);
     if length == 0 || are_like_moves(&line[..words]) {
+        return None;
+    }
+    if is_step(&line[..words], from_place(line, length)) {
         return None;
     }
     if has_other_side(&line[..words]) && !has_bracket(&line[length..]) {

@@ -271,6 +271,11 @@ impl Solutions {
         self.order.found.map(|at| begin.saturating_add(at))
     }
 
+    /// Where a step stands that belongs at a mark above it, if these lines begin there.
+    pub fn inserted(&self, begin: usize) -> Option<usize> {
+        self.order.inserted.map(|at| begin.saturating_add(at))
+    }
+
     /// With moves in the group, of which something is said or not.
     fn with_moves(self, is_told: bool) -> Solutions {
         let mut seen = self;

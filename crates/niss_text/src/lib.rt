@@ -24,6 +24,7 @@ mod said;
 mod short_word;
 mod sights;
 mod sign;
+mod single;
 mod span;
 mod spelling;
 mod status;

@@ -6,7 +6,7 @@ ghost use Rattle.niss_text.specs.Said.{HasNoSlashes, IsLabelled, SaysSolution, i
 ghost use Rattle.niss_text.specs.Lines.{IsUnbroken, IsEnd, end_of, end_size};
 
 use crate::body::{are_long, has_frame, is_whole_scramble};
-use crate::forms::{blanks, line_length, margin};
+use crate::forms::{blanks, is_bullet, line_length, margin};
 use crate::heads::head_of;
 use crate::line_parts::parts_of;
 use crate::sign::{Class, behind, from_place, is_digit_byte};
@@ -62,6 +62,8 @@ pub struct Line {
     pub beside: Beside,
     /// Its label has a digit.
     is_numbered: bool,
+    /// It has the sign of a list before its moves, and no words.
+    is_listed: bool,
     pub is_solution: bool,
     pub is_final: bool,
     pub is_step: bool,
@@ -105,6 +107,7 @@ impl Line {
             is_moves: moves < length,
             beside: seen_beside(&[], head.0 == Head::Word),
             is_numbered: false,
+            is_listed: false,
             is_solution: false,
             is_final: false,
             is_step: false,
@@ -123,16 +126,20 @@ impl Line {
     }
 
     /// Whether its moves are as many as those of a scramble, or more.
-    pub fn is_long(&self) -> bool {
+    pub fn is_long(&self) -> bool
+        ensures { self.now.moves + 40 ≤ self.now.comment → result ≡ true }
+    {
         are_long(self.moves, self.comment)
     }
 
     /// Whether its moves may be a scramble: they are long, and nothing is said of them, but perhaps by words with a number
-    /// in front that name no step and no solution.
-    pub fn may_be_scramble(&self) -> bool {
+    /// in front that name no step and no solution. The sign of a list says nothing.
+    pub fn may_be_scramble(&self) -> bool
+        ensures { self.now.is_listed ≡ true → self.now.moves + 40 ≤ self.now.comment → result ≡ true }
+    {
         let is_named = self.is_numbered
             && !(self.is_step || self.is_solution || self.has_comment());
-        self.is_long() && (self.has_only_moves() || is_named)
+        self.is_long() && (self.has_only_moves() || self.is_listed || is_named)
     }
 
     /// Whether something is said after its moves.
@@ -204,6 +211,7 @@ fn line_behind(line: &[u8], head_kind: Head, head: usize) -> Line
         is_head_alone: head_kind != Head::None && is_empty_from(line, head),
         is_moves: parts.is_moves,
         beside: seen_beside(label, has_words),
+        is_listed: !has_words && is_bullet(label),
         is_numbered: label.iter().any(|byte| is_digit_byte(*byte)),
         is_solution,
         is_final: is_solution && says(title, Wanted::Final),

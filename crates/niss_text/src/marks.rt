@@ -59,7 +59,7 @@ pub fn has_moves_aside(comment: &[u8]) -> bool {
 
 /// Where the last word of some moves begins, as blanks part them.
 #[inline(never)]
-fn last_word(moves: &[u8]) -> usize
+pub fn last_word(moves: &[u8]) -> usize
     ensures { result ≤ length moves.now }
 {
     let mut begin = 0;
@@ -133,7 +133,7 @@ pub fn letter_of_words(moves: &[u8], words: &[u8]) -> Option<usize>
 }
 
 /// The last word of a text, as blanks part them, without those after it.
-fn word_at_end(text: &[u8]) -> &[u8] {
+pub fn word_at_end(text: &[u8]) -> &[u8] {
     let word = &text[last_word(text)..];
     &word[..length_of(word, Class::NoBlanks)]
 }

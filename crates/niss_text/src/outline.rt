@@ -142,8 +142,9 @@ pub struct Outline {
     moves_end: usize,
     pub has_name: bool,
     has_sign: bool,
-    /// Its scramble says that it is a step.
+    /// Its scramble says that it is a step, or the solution.
     pub is_step: bool,
+    pub is_solution: bool,
     pub has_several: bool,
     is_found: bool,
     numbers: Numbers,
@@ -164,6 +165,7 @@ impl Outline {
             has_name: false,
             has_sign: false,
             is_step: false,
+            is_solution: false,
             has_several: false,
             numbers,
         }
@@ -183,6 +185,7 @@ impl Outline {
             seen.has_several = !seen.has_name && (self.has_several || names_solutions(text, line));
             seen.has_sign = line.beside == Beside::Signs;
             seen.is_step = line.is_step;
+            seen.is_solution = line.is_solution;
             seen.is_found = line.is_moves;
             seen.first = at;
             seen.moves = at.saturating_add(line.moves);

@@ -7,18 +7,18 @@ ghost use Rattle.niss_text.specs.Kept.{small};
 ghost use Rattle.niss_text.specs.Said.{DeniesNothing, HasWord, IsDenied, Names, are_spelled, words_of, words_of_links, words_of_none};
 ghost use Rattle.niss_text.specs.Doubts.{number_of};
 ghost use Rattle.niss_text.specs.Lines.{IsLine};
-ghost use Rattle.niss_text.specs.declared.doubts.Doubt.TheVariants.{Nothing};
+ghost use Rattle.niss_text.specs.declared.doubts.Doubt.TheVariants.{Nothing, Insertion};
 ghost use Rattle.niss_text.specs.declared.said.Said.TheVariants.{Beside, OfBrackets, OfMoves};
 
 use crate::doubts::Doubt;
-use crate::forms::has_bracket;
-use crate::marks::is_mark;
+use crate::forms::{comment_at, has_bracket};
+use crate::marks::{has_moves_aside, is_mark};
 use crate::sights::is_letter;
 use crate::sign::from_place;
 use crate::text_line::{LineKind, TextLine};
 use crate::topics::{
     Topic, denies, denies_by_sign, first_topic, is_denied_behind, is_normal_side, names_algorithm,
-    word_of,
+    names_skeleton, word_of,
 };
 use crate::words::{Wanted, letters_in_front, says, sign_size, word_length};
 
@@ -31,8 +31,24 @@ pub enum Said {
     OfMoves,
     /// Of some of the solution, in a line without any.
     OfOthers,
-    /// Beside the solution, of which only a correction counts there.
+    /// Beside the solution, of which only a correction counts there, and what is put into others.
     Beside,
+}
+
+/// What makes one doubt the solution by the letters that a text beside it begins with: that others are put into it, but
+/// not into a skeleton, which has its own.
+fn doubt_beside(text: &[u8], topic: Option<Topic>, is_denied: bool) -> Doubt
+    ensures either { (result ≡ Nothing) ⊎ (result ≡ Insertion) }
+    ensures denied { is_denied ≡ true → result ≡ Nothing }
+{
+    if topic != Some(Topic::Insertion) || is_denied {
+        return Doubt::Nothing;
+    }
+    if is_denied_behind(text) || names_skeleton(text) {
+        Doubt::Nothing
+    } else {
+        Doubt::Insertion
+    }
 }
 
 /// What makes one doubt moves of which something is said by the letters that a text begins with, after others that deny
@@ -46,7 +62,7 @@ fn doubt_of_words(text: &[u8], before: &[u8], of: Said, is_denied: bool) -> Doub
 {
     match first_topic(text, before) {
         Some(Topic::Correction) => Doubt::Insertion,
-        _ if of == Said::Beside => Doubt::Nothing,
+        topic if of == Said::Beside => doubt_beside(text, topic, is_denied),
         Some(Topic::Unread) => Doubt::Signs,
         None if of != Said::OfOthers || !names_algorithm(word_of(text)) => Doubt::Nothing,
         // also a side that is denied: words may say so in another way than that by which it is told
@@ -179,6 +195,31 @@ pub fn first_said(text: &[u8], from: usize, to: usize, of: Said) -> (Doubt, usiz
     (Doubt::Nothing, to)
 }
 
+/// What makes one doubt a line without moves, and where: a mark, or what is said in it, or moves after its slashes.
+fn doubt_of_note(text: &[u8], told: &TextLine) -> (Doubt, usize)
+    requires line { IsLine told.now.begin told.now }
+    requires fits { told.now.end ≤ length text.now }
+    ensures place { (told.now.begin ≤ result.1) × (result.1 ≤ told.now.end) }
+    ensures free { (number_of result.0 ≡ 3) ⊎ (number_of result.0 ≡ 7) → (between : ℕ) →
+        IsDenied between (slice_range text.now told.now.head_end told.now.end) (result.1 - told.now.head_end) → ⊥ }
+    ensures nowhere { result.0 ≡ Nothing → result.1 ≡ told.now.end }
+    ensures others { (number_of result.0 ≡ 4 → ⊥) × (number_of result.0 ≡ 5 → ⊥) }
+    ensures said { (number_of result.0 ≡ 1 → ⊥) × ((number_of result.0 ≡ 2 → ⊥) × (number_of result.0 ≡ 11 → ⊥)) }
+{
+    if is_mark(&text[told.begin..told.end]) {
+        return (Doubt::Insertion, told.begin);
+    }
+    let said = first_said(text, told.head_end, told.end, Said::OfOthers);
+    if said.0 != Doubt::Nothing {
+        return said;
+    }
+    let slashes = told.head_end + comment_at(&text[told.head_end..told.end]);
+    if has_moves_aside(&text[slashes..told.end]) {
+        return (Doubt::Comment, slashes);
+    }
+    (Doubt::Nothing, told.end)
+}
+
 /// What is said of a line that makes one doubt it, and where: in its label or after its moves; of a line without moves
 /// anywhere.
 pub fn doubt_said(text: &[u8], told: &TextLine) -> (Doubt, usize)
@@ -188,13 +229,11 @@ pub fn doubt_said(text: &[u8], told: &TextLine) -> (Doubt, usize)
     ensures free { told.now.kind ≡ 4 → (number_of result.0 ≡ 3) ⊎ (number_of result.0 ≡ 7) → (between : ℕ) →
         IsDenied between (slice_range text.now told.now.head_end told.now.end) (result.1 - told.now.head_end) → ⊥ }
     ensures others { (number_of result.0 ≡ 4 → ⊥) × (number_of result.0 ≡ 5 → ⊥) }
-    ensures said { (number_of result.0 ≡ 1 → ⊥) × ((number_of result.0 ≡ 2 → ⊥) × ((number_of result.0 ≡ 6 → ⊥) × (number_of result.0 ≡ 11 → ⊥))) }
+    ensures said { (number_of result.0 ≡ 1 → ⊥) × ((number_of result.0 ≡ 2 → ⊥) × (number_of result.0 ≡ 11 → ⊥)) }
+    ensures comment { number_of result.0 ≡ 6 → told.now.kind ≡ 4 }
 {
     if told.is_a(LineKind::Note) {
-        if is_mark(&text[told.begin..told.end]) {
-            return (Doubt::Insertion, told.begin);
-        }
-        return first_said(text, told.head_end, told.end, Said::OfOthers);
+        return doubt_of_note(text, told);
     }
     let of = if has_bracket(&text[told.moves..told.comment]) {
         Said::OfBrackets
@@ -206,4 +245,25 @@ pub fn doubt_said(text: &[u8], told: &TextLine) -> (Doubt, usize)
         return label;
     }
     first_said(text, told.comment, told.end, of)
+}
+
+/// What is said in a line beside the solution that makes one doubt that, and where: in its label or after its moves; of a
+/// line without moves anywhere.
+pub fn doubt_said_beside(text: &[u8], told: &TextLine) -> (Doubt, usize)
+    requires line { IsLine told.now.begin told.now }
+    requires fits { told.now.end ≤ length text.now }
+    ensures place { (told.now.begin ≤ result.1) × (result.1 ≤ told.now.end) }
+    ensures nowhere { result.0 ≡ Nothing → result.1 ≡ told.now.end }
+    ensures beside { (number_of result.0 ≡ 7 → ⊥) × (number_of result.0 ≡ 3 → ⊥) }
+    ensures others { (number_of result.0 ≡ 4 → ⊥) × (number_of result.0 ≡ 5 → ⊥) }
+    ensures said { (number_of result.0 ≡ 1 → ⊥) × ((number_of result.0 ≡ 2 → ⊥) × ((number_of result.0 ≡ 6 → ⊥) × (number_of result.0 ≡ 11 → ⊥))) }
+{
+    if told.is_a(LineKind::Note) {
+        return first_said(text, told.begin, told.end, Said::Beside);
+    }
+    let label = first_said(text, told.label_begin, told.label_end, Said::Beside);
+    if label.0 != Doubt::Nothing {
+        return label;
+    }
+    first_said(text, told.comment, told.end, Said::Beside)
 }

@@ -4,6 +4,7 @@ ghost use Rattle.niss_text.specs.Kept.{AreInNotation, begins_with_move, begins_w
 ghost use Rattle.niss_text.specs.declared.word.Word.TheVariants.{Move, Other};
 
 use crate::sign::from_place;
+use crate::single::Single;
 use crate::word::{Word, are_plain_moves, first_word};
 
 /// Where the moves of a line begin and end, and where the first name stands that may be moves, such as `LL`: the end if
@@ -225,16 +226,18 @@ impl Frame {
         self.moves > 0 || self.has_name || (self.has_others && !self.has_words)
     }
 
-    /// Where the moves of a line are that has that many bytes. Words are told from moves only beside two moves.
-    fn span(self, length: usize) -> Span
+    /// Where the moves of a line are that has that many bytes. Words are told from moves only beside two moves, or beside
+    /// one that is a step by itself.
+    fn span(self, length: usize, is_single: bool) -> Span
         requires { self.name ≤ length }
+        ensures alone { self.moves ≤ 1 → is_single ≡ false → (result.begin ≡ 0) × (result.end ≡ length) }
         ensures fits { result.end ≤ length }
         ensures name { result.name ≤ length }
         ensures tail { (text : List ℕ) → IsNoMove text self.has_tail self.tail → result.end < length → begins_with_turn (drop result.end text) ≡ false }
         ensures front { self.lead ≡ 0 → result.begin ≡ 0 }
     {
-        let is_told = self.moves > 1 && !(self.is_open && self.is_of_moves);
-        if !is_told {
+        let is_step = self.moves > 1 || (is_single && self.moves == 1 && !self.has_others);
+        if !is_step || (self.is_open && self.is_of_moves) {
             return Span {
                 is_moves: self.has_moves(),
                 begin: 0,
@@ -273,12 +276,14 @@ pub fn span_of(line: &[u8]) -> Span
         };
     }
     let mut frame = Frame::nothing();
+    let mut single = Single::nothing();
     let mut rest = line;
     while !rest.is_empty() {
         let (word, length) = first_word(rest);
         let begin = line.len() - rest.len();
+        single = single.with(word, &rest[..length], frame.is_lead);
         frame = frame.after(word, begin, begin + length);
         rest = from_place(rest, length);
     }
-    frame.span(line.len())
+    frame.span(line.len(), single.is_step())
 }

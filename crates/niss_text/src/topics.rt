@@ -125,9 +125,11 @@ fn insertions_by(letter: u8) -> &'static [u8] {
     match letter {
         b'a' => b"at move",
         b'b' => b"between",
-        b'c' => b"corner cycle",
+        b'c' => b"corner cycle,commut",
         b'e' => b"einf,esquel,edge cycle",
         b'i' => b"inser",
+        b'k' => b"kommut",
+        b'l' => b"l3c,l3e,l4c,l4e,l5c,l5e",
         b'r' => b"replac",
         b's' => b"skele,squel,schele",
         b'w' => b"wstaw",
@@ -249,6 +251,15 @@ fn begins_insertion(text: &[u8]) -> bool
         insertions_by(small(text[0]))
     };
     fits_one_of(text, words, false)
+}
+
+/// Whether a text begins with a word for moves into which others are to be put.
+pub fn names_skeleton(text: &[u8]) -> bool {
+    fits_one_of(
+        text,
+        b"skele,squel,schele,esquel,\xe9\xaa\xa8\xe6\x9e\xb6",
+        false,
+    )
 }
 
 /// Whether a word denies what follows it, as in `no insertion`: if the words before it do so, a link does too.

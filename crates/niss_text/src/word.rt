@@ -1,7 +1,9 @@
 //! The words of a line: moves that stand alone, moves in one word, and words that are no moves.
-ghost use Rattle.std.specs.Prelude.{◌≡◌, ◌≤◌, ◌<◌, ℕ, true, length, slice_index};
-ghost use Rattle.niss_text.specs.Kept.{AreInNotation, begins_with_layers, begins_with_move, follows_move, goes_on, needs_more};
-ghost use Rattle.niss_text.specs.declared.word.Word.TheVariants.{Move, Other};
+ghost use Rattle.std.specs.Prelude.{◌≡◌, ◌≤◌, ◌<◌, ◌⊎◌, ℕ, true, length, map, slice_index};
+ghost use Rattle.std.specs.List.{Contains};
+ghost use Rattle.niss_text.specs.Kept.{AreInNotation, begins_with_layers, begins_with_move, follows_move, goes_on, needs_more, small};
+ghost use Rattle.niss_text.specs.Said.{words_of_step};
+ghost use Rattle.niss_text.specs.declared.word.Word.TheVariants.{Move, Name, Other, Said};
 
 use crate::forms::count_length;
 use crate::short_word::short_word;
@@ -40,12 +42,14 @@ pub enum Word {
 }
 
 impl Word {
-    /// The same of a name that solvers give a step.
-    fn or_step(self, text: &[u8]) -> Word {
-        if self == Word::Name && is_step_name(text) {
-            Word::Said
-        } else {
-            self
+    /// The same of a name that solvers give a step. A phone writes small letters after its first one.
+    fn or_step(self, text: &[u8]) -> Word
+        ensures named { (self ≡ Name) ⊎ (self ≡ Other) → 0 < length text.now → Contains words_of_step (map small text.now) → result ≡ Said }
+        ensures only { (result ≡ self) ⊎ Contains words_of_step (map small text.now) }
+    {
+        match self {
+            Word::Name | Word::Other if is_step_name(text) => Word::Said,
+            _ => self,
         }
     }
 }

@@ -5,6 +5,7 @@ ghost use Rattle.niss_text.specs.Doubts.{is_letter as is_plain_letter};
 ghost use Rattle.std.specs.List.{Contains};
 ghost use Rattle.niss_text.specs.Kept.{small};
 ghost use Rattle.niss_text.specs.Said.{HasWord, SaysSolution, listed, words_of, words_of_links, words_of_none, words_of_step, are_spelled};
+ghost use Rattle.niss_text.specs.Steps.{words_before_step};
 
 use crate::sign::{Class, from_place, is_letter_byte, length_of, one_sign};
 
@@ -163,6 +164,14 @@ pub fn is_step_name(word: &[u8]) -> bool
     ensures all { 0 < length word.now → Contains words_of_step (map small word.now) → result ≡ true }
 {
     fits_one_of(word, b"eo,dr,htr,fr,finish,skeleton,slice", true)
+}
+
+/// Whether solvers write a word by itself before the moves of a step.
+pub fn names_step(word: &[u8]) -> bool
+    ensures said { result ≡ true → Contains words_before_step (map small word.now) }
+    ensures all { 0 < length word.now → Contains words_before_step (map small word.now) → result ≡ true }
+{
+    fits_one_of(word, b"eo,dr,htr,fr,fin,finish,auf", true)
 }
 
 /// Whether a word says that there is nothing of what the next one names.
