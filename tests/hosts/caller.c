@@ -1,8 +1,6 @@
 /* Reads texts as solvers write them by the calls for C, one on each line of standard input, and answers each on a line, as hosts.py says. It asks as
  * a caller in C does: by lines, their moves, a check, and the next form. */
-#include "lines.h"
-
-#include <ctype.h>
+#include "shown.h"
 
 /* What a text has, each attempt with what is said of it. */
 typedef struct attempt {
@@ -46,45 +44,6 @@ static void say_check(text of, lines those) {
     if (is_told) say_forms(of, &it.solution);
     let_go(it.scramble), let_go(it.solution);
 }
-
-/* Whether a byte may be of a word, or of a face such as ":D". */
-static int is_of_word(uint8_t byte) { return isalnum(byte) || (byte && strchr(":;<=", byte)); }
-
-/* Where the letter of a face, capital or small, first stands in the comment of a line outside words. */
-static uint64_t said_in(text of, const nissy_text_line *line, char face) {
-    for (uint64_t at = line ? line->comment : 0; line && at < line->end; at++) {
-        const uint8_t next = at + 1 < of.length ? of.bytes[at + 1] : 0;
-        if (toupper(of.bytes[at]) != face || is_of_word(of.bytes[at - 1])) continue;
-        if (!is_of_word(next) || next == '2' || next == '3') return at;
-    }
-    return NISSY_NO_PLACE;
-}
-
-static int is_stray(uint8_t byte) { return byte && strchr("!?|&", byte); }
-
-/* The end of a stretch without the blanks at it. */
-static uint64_t end_of(text of, uint64_t begin, uint64_t end) {
-    while (end > begin && (of.bytes[end - 1] == ' ' || of.bytes[end - 1] == '\t')) end--;
-    return end;
-}
-
-/* Where a sign stands behind the moves of a step, and before them. */
-static uint64_t sign_behind(text of, const nissy_text_line *line) {
-    if (!line) return NISSY_NO_PLACE;
-    const uint8_t next = line->comment < line->end ? of.bytes[line->comment] : 0;
-    if (is_stray(next) || isdigit(next)) return line->comment;
-    const uint64_t end = end_of(of, line->moves, line->comment);
-    return end > line->moves + 2 && !memcmp(of.bytes + end - 2, "()", 2) ? end - 2 : NISSY_NO_PLACE;
-}
-
-static uint64_t sign_before(text of, const nissy_text_line *line) {
-    if (!line) return NISSY_NO_PLACE;
-    const uint64_t end = end_of(of, line->label_begin, line->moves);
-    if (end > line->label_begin && is_stray(of.bytes[end - 1])) return end - 1;
-    return line->moves + 2 <= line->comment && !memcmp(of.bytes + line->moves, "()", 2) ? line->moves : NISSY_NO_PLACE;
-}
-
-static uint64_t first_of(uint64_t one, uint64_t other) { return one != NISSY_NO_PLACE ? one : other; }
 
 /* All steps of an attempt: the line of each, from 1 on, and where it ends in them; and how many signs stand beside them. */
 typedef struct whole {
@@ -157,9 +116,12 @@ static int say_lost(text of, const whole *all, const written *scramble, const wr
             const char turn[3] = {"UDRLFB"[which / 3], "\0002'"[which % 3], 0};
             const nissy_text_line *const behind = all->step[number], *const before = all->step[number + 1];
             const uint64_t said = first_of(said_in(of, behind, turn[0]), said_in(of, before, turn[0]));
+            const uint64_t taken_back = first_of(letter_behind(of, behind, turn[0]), letter_before(of, before, turn[0]));
+            const uint64_t letter = turn[1] == '\'' ? taken_back : NISSY_NO_PLACE;
             const uint64_t sign = all->signs == 1 ? first_of(sign_behind(of, behind), sign_before(of, before)) : NISSY_NO_PLACE;
-            if (first_of(said, sign) == NISSY_NO_PLACE || !solves_with(scramble, steps, all->ends[number], turn)) continue;
-            say_text(DOUBTS[said != NISSY_NO_PLACE ? NISSY_INSERTION : NISSY_SIGNS]), say_place(of, first_of(said, sign));
+            const uint64_t shown = first_of(first_of(said, letter), sign);
+            if (shown == NISSY_NO_PLACE || !solves_with(scramble, steps, all->ends[number], turn)) continue;
+            say_text(DOUBTS[shown == said ? NISSY_INSERTION : shown == letter ? NISSY_COMMENT : NISSY_SIGNS]), say_place(of, shown);
             return 1;
         }
     return 0;
@@ -176,6 +138,30 @@ static int solves_turned(const written *scramble, const written *steps, uint64_t
     return 0;
 }
 
+/* Whether they would solve with a step before another one, or after the last one. */
+static int solves_moved(const written *scramble, const written *steps, const whole *all, size_t moved, size_t place) {
+    uint8_t *const line = memory(2 * steps->length + all->count);
+    uint64_t length = 0;
+    for (size_t at = 0; at < 2 * all->count + 1; at++) {
+        /* between the steps in their order stand the places before them and after the last one */
+        const size_t number = at % 2 ? at / 2 : moved;
+        if (at % 2 ? number == moved : at / 2 != place) continue;
+        for (uint64_t byte = all->ends[number]; byte < all->ends[number + 1]; byte++)
+            line[length++] = steps->bytes[byte] == '\n' ? ' ' : steps->bytes[byte];
+        line[length++] = ' ';
+    }
+    const int solves = nissy_check(scramble->bytes, scramble->length, line, length).solved;
+    free(line);
+    return solves;
+}
+
+/* Whether they would with it elsewhere. */
+static int solves_elsewhere(const written *scramble, const written *steps, const whole *all, size_t moved) {
+    for (size_t place = 0; place <= all->count; place++)
+        if (place != moved && place != moved + 1 && solves_moved(scramble, steps, all, moved, place)) return 1;
+    return 0;
+}
+
 /* What makes one doubt an attempt of which no part solves, by all its steps; whether something does. */
 static int say_whole(text of, lines those, const written *scramble, const written *steps) {
     whole all = {{NULL}, {0}, 0, 0};
@@ -186,10 +172,15 @@ static int say_whole(text of, lines those, const written *scramble, const writte
         say_text(DOUBTS[NISSY_INSERTION]), say_place(of, all.step[number + 1]->moves);
         return 1;
     }
+    for (size_t number = 0; number < all.count; number++) {
+        if (!solves_elsewhere(scramble, steps, &all, number)) continue;
+        say_text(DOUBTS[NISSY_INSERTION]), say_place(of, all.step[number + 1]->moves);
+        return 1;
+    }
     return 0;
 }
 
-/* The place of the part of the steps that solves, if there is one, or of a turn or a rotation with which all do, or of another attempt. */
+/* The place of the part of the steps that solves, if there is one, or of what has all solve, or of another attempt. */
 static void say_part(text of, lines those, const written *scramble) {
     const written steps = moves_of(of, those, NISSY_OF_EACH_STEP);
     const nissy_part_answer part = nissy_solving_part(scramble->bytes, scramble->length, steps.bytes, steps.length);

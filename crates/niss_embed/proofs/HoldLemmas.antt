@@ -103,7 +103,7 @@ word_spelled (Some r) = by_power r.0 r.1
     by_power a Half = record { items = Outside (Gap Space) ∷ Outside (Spelled (Base.Rotation a) Two) ∷ []; bytes_are = refl; normal_are = refl; bracketed_are = refl }
     by_power a Counter = record { items = Outside (Gap Space) ∷ Outside (Spelled (Base.Rotation a) (Prime Plain)) ∷ []; bytes_are = refl; normal_are = refl; bracketed_are = refl }
 
-blank_spelled : Spells (32 ∷ []) [] []
+pub blank_spelled : Spells (32 ∷ []) [] []
 blank_spelled = record { items = Outside (Gap Space) ∷ []; bytes_are = refl; normal_are = refl; bracketed_are = refl }
 
 pub turned_spelled : (r : Rotation) → Spells (turned_bytes r) (spelling r) []

@@ -30,3 +30,4 @@ pub mod LostLemmas
 pub mod ShownLemmas
 pub mod HoldLemmas
 pub mod TurnedLemmas
+pub mod MovedLemmas

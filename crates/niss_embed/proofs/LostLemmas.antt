@@ -23,7 +23,7 @@ use Rattle.niss_embed.specs.ShownTurn.{IsBorder, shown_at, shown_between, suffix
 use Rattle.niss_embed.specs.declared.shown_turn.Border.{Border}
 use Rattle.niss_moves.specs.Line.{Moves}
 use Rattle.niss_moves.specs.declared.fault.ReadFault.{ReadFault}
-use Rattle.niss_embed.specs.WholeDoubt.{IsLostOrTurned}
+use Rattle.niss_embed.specs.WholeDoubt.{IsWholeDoubt}
 use Rattle.niss_embed.proofs.DeadLemmas.{rests_blank}
 
 -- the first place from one on is none that fails
@@ -58,7 +58,7 @@ border_told scramble steps bounds text lines k border told lost is =
     shows : shown_between border.text.now border.behind border.before border.has_one_sign ≡ shown_at text lines k
     shows = λ i. shown_between (is.text_is i) (is.behind_is i) (is.before_is i) (is.one_is i)
 
--- the doubt that a part solves, or else that a turn was lost, or the cube turned
+-- the doubt that a part solves, or else that a turn was lost, the cube turned, or a step moved
 pub part_told : (part : PartAnswer) (scramble steps places text : List ℕ) (lines : List TextLine) (told : Doubt) → (part.how ≡ 0 → ⊥) → told ≡ doubt_of_part part places →
     IsPartOrLost (part.how == 0) part scramble steps places text lines told
 part_told part scramble steps places text lines told some is = elim (eqb_tells part.how 0) [
@@ -67,7 +67,7 @@ part_told part scramble steps places text lines told some is = elim (eqb_tells p
 ]
 
 pub lost_told : (part : PartAnswer) (scramble steps places text : List ℕ) (lines : List TextLine) (told none : Doubt) (lost : Option Doubt) → part.how ≡ 0 →
-    IsLostOrTurned scramble steps text lines lost → told ≡ unwrap_or lost none → none ≡ no_doubt → IsPartOrLost (part.how == 0) part scramble steps places text lines told
+    IsWholeDoubt scramble steps text lines lost → told ≡ unwrap_or lost none → none ≡ no_doubt → IsPartOrLost (part.how == 0) part scramble steps places text lines told
 lost_told part scramble steps places text lines told none lost nothing is told_is none_is =
     rw nothing (lost, is, told_is ∙ ap (unwrap_or lost) none_is)
 

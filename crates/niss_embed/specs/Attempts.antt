@@ -11,7 +11,7 @@ use Rattle.niss_embed.specs.Beside.{IsDoubtBeside, is_long_other}
 use Rattle.niss_embed.specs.InnerAttempt.{IsBegunWithin}
 use Rattle.niss_embed.specs.LineFacts.{check_of}
 use Rattle.niss_embed.specs.Parts.{TellsPart}
-use Rattle.niss_embed.specs.WholeDoubt.{IsLostOrTurned}
+use Rattle.niss_embed.specs.WholeDoubt.{IsWholeDoubt}
 use Rattle.niss_embed.specs.declared.attempt_checks.AttemptCheck.{AttemptCheck}
 use Rattle.niss_embed.specs.declared.judged.Judged.{Judged}
 use Rattle.niss_embed.specs.declared.attempts.Outcome.{Outcome}
@@ -57,11 +57,11 @@ outcome_of has_solution check =
 abbrev pub doubt_of_part : PartAnswer → (places : List ℕ) → Doubt
 doubt_of_part part places = if part.how == 0 then no_doubt else doubt 9 (get_or places part.begin no_place)
 
--- The doubt is that a part of the steps solves, or if none does, that a turn was lost, or the cube turned.
+-- The doubt is that a part of the steps solves, or if none does, that a turn was lost, the cube turned, or a step moved.
 abbrev pub IsPartOrLost : (is_none : Bool) → PartAnswer → (scramble steps places text : List ℕ) (lines : List TextLine) (told : Doubt) → Type 0
 IsPartOrLost false part scramble steps places text lines told = told ≡ doubt_of_part part places
 IsPartOrLost true part scramble steps places text lines told =
-    (whole : Option Doubt) × IsLostOrTurned scramble steps text lines whole × (told ≡ unwrap_or whole no_doubt)
+    (whole : Option Doubt) × IsWholeDoubt scramble steps text lines whole × (told ≡ unwrap_or whole no_doubt)
 
 -- A part of the steps solves, or all of them with a turn or a rotation, or none, and that is the doubt.
 pub record IsDoubtOfSteps (text : List ℕ) (lines : List TextLine) (scramble : List ℕ) (told : Doubt) : Type 0 where

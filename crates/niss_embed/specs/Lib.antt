@@ -10,10 +10,13 @@ pub mod TwoLines
 pub mod BestWays
 pub mod ListedSides
 pub mod Parts
+pub mod Blanks
+pub mod BareLetter
 pub mod ShownTurn
 pub mod Between
 pub mod LostTurn
 pub mod TurnedCube
+pub mod MovedStep
 pub mod WholeDoubt
 pub mod Another
 pub mod InnerAttempt

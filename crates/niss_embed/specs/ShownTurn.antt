@@ -12,6 +12,9 @@ use Rattle.niss_text.specs.Moves.{is_wanted}
 use Rattle.niss_text.specs.Signs.{is_digit, is_within}
 use Rattle.niss_text.specs.declared.moves.MovesOf.TheVariants.{EachStep}
 use Rattle.niss_text.specs.declared.text_line.TextLine.{TextLine}
+use Rattle.niss_embed.specs.BareLetter.{letter_between}
+use Rattle.niss_embed.specs.Blanks.{last_place, place_if}
+use Rattle.niss_embed.specs.Doubts.{doubt}
 use Rattle.niss_embed.specs.declared.attempts.Doubt.{Doubt}
 use Rattle.niss_embed.specs.declared.shown_turn.Border.{Border}
 
@@ -59,21 +62,6 @@ said_in text line f = find (stands_at text f) (comment_places text line)
 -- signs that look like letters, or stand for one
 abbrev pub is_stray : ℕ → Bool
 is_stray b = (b == 33) || ((b == 38) || ((b == 63) || (b == 124)))
-
-abbrev pub is_blank : ℕ → Bool
-is_blank b = (b == 9) || (b == 32)
-
--- How many blanks end a stretch of a text, if it has another byte too, and the place of the last one that isn't a blank.
-abbrev pub blanks_before : List ℕ → (begin end : ℕ) → Option ℕ
-blanks_before text begin end = find (λ n. not (is_blank (slice_index text (end - 1 - n)))) (range_with_len 0 (end - begin))
-
-abbrev pub last_place : List ℕ → (begin end : ℕ) → Option ℕ
-last_place text begin end = option_map (λ n. end - 1 - n) (blanks_before text begin end)
-
--- a place, if what is said of it is true
-abbrev pub place_if : (ℕ → Bool) → Option ℕ → Option ℕ
-place_if test None = None
-place_if test (Some at) = if test at then Some at else None
 
 -- brackets around nothing
 abbrev pub is_empty_bracket : List ℕ → Bool
@@ -144,17 +132,16 @@ abbrev pub sign_between : List ℕ → (behind before : Option TextLine) → (is
 sign_between text behind before false = None
 sign_between text behind before true = option_or (sign_behind_step text behind) (sign_before_step text before)
 
--- the doubt of what is said, that moves belong there, else of a sign
-abbrev pub shown_by : (said sign : Option ℕ) → Option Doubt
-shown_by (Some at) sign = Some (record { reason = 8; at = at })
-shown_by None (Some at) = Some (record { reason = 12; at = at })
-shown_by None None = None
+-- the doubt of what is said, that moves belong there, else of a letter that may be of words, else of a sign
+abbrev pub shown_by : (said letter sign : Option ℕ) → Option Doubt
+shown_by said letter sign = option_or (option_or (option_map (doubt 8) said) (option_map (doubt 6) letter)) (option_map (doubt 12) sign)
 
 -- The doubt of a turn that the text shows between two steps: by its face in the comment of the first, else of the second,
--- else by the only sign.
+-- else by a letter that it takes back, else by the only sign.
 abbrev pub shown_between : List ℕ → (behind before : Option TextLine) → (is_one : Bool) → Turn → Option Doubt
 shown_between text behind before is_one t =
-    shown_by (option_or (said_in_step text behind t.face) (said_in_step text before t.face)) (sign_between text behind before is_one)
+    shown_by (option_or (said_in_step text behind t.face) (said_in_step text before t.face)) (letter_between text behind before t)
+    (sign_between text behind before is_one)
 
 -- the same before the step of a number, or after the last one
 abbrev pub shown_at : List ℕ → List TextLine → ℕ → Turn → Option Doubt

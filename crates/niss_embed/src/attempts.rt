@@ -207,7 +207,7 @@ pub(crate) fn moves_of(
 }
 
 /// What makes one doubt an attempt that isn't solved: that a part of its steps solves, or that they do with a turn that was
-/// lost, and the text shows it, or with a rotation of the whole cube.
+/// lost, and the text shows it, or with a rotation of the whole cube, or with one of them elsewhere.
 fn doubt_of_steps(
     text: &[u8],
     lines: &[TextLine],

@@ -1,13 +1,17 @@
-//! A turn that the text of an attempt shows beside one of its steps, though it isn't among their moves.
+//! A turn that the text of an attempt shows beside one of its steps, though it isn't among their moves, or takes a letter back
+//! that is none.
 ghost use Rattle.std.specs.Prelude.{◌≡◌, ◌<◌, ◌≤◌, ◌+◌, ◌==◌, ◌&&◌, ◌||◌, ℕ, List, IfSome, None, false, drop, length};
-ghost use Rattle.std.specs.Option.{option_to_list};
+ghost use Rattle.std.specs.Option.{option_map, option_to_list};
 ghost use Rattle.niss_moves.specs.declared.turn.Face.{Face};
 ghost use Rattle.niss_moves.specs.declared.turn.Turn.{Turn};
 ghost use Rattle.niss_text.specs.declared.text_line.TextLine.{TextLine};
-ghost use Rattle.niss_embed.specs.ShownTurn.{said_in, is_blank, is_stray, last_place, ends_bracket, sign_after, sign_behind, is_empty_bracket, bracket_behind, bracket_before, sign_before};
+ghost use Rattle.niss_embed.specs.Doubts.{doubt};
+ghost use Rattle.niss_embed.specs.Blanks.{is_blank, last_place};
+ghost use Rattle.niss_embed.specs.ShownTurn.{said_in, is_stray, ends_bracket, sign_after, sign_behind, is_empty_bracket, bracket_behind, bracket_before, sign_before};
 ghost use Rattle.niss_embed.specs.ShownTurn.{IsBorder, steps_among, step_at, has_one_sign, signs_of, said_in_step, sign_behind_step, sign_before_step, sign_between, shown_by, shown_between};
 
 use crate::attempts::Doubt;
+use crate::bare_letter::{letter_between, may_stand};
 use crate::step_lines::is_step;
 use crate::stretch::stretch;
 use crate::turn_words::{byte_at, is_within, may_begin, stands_at};
@@ -17,7 +21,10 @@ use niss_text::TextLine;
 /// The doubt that moves belong there.
 pub(crate) const MOVES_BELONG: u8 = 8;
 
-/// The doubt that a sign stands for one.
+/// The doubt that a letter may be of words.
+const COMMENT: u8 = 6;
+
+/// The doubt that a sign stands for a move.
 const SIGNS: u8 = 12;
 
 /// Whether some face may stand in the comment of a line.
@@ -54,14 +61,14 @@ fn is_stray(byte: u8) -> bool
 }
 
 /// Whether a byte is a blank.
-fn is_blank(byte: u8) -> bool
+pub(crate) fn is_blank(byte: u8) -> bool
     ensures { result ≡ is_blank byte }
 {
     byte == b'\t' || byte == b' '
 }
 
 /// Where the last byte stands between two places of a text that isn't a blank.
-fn last_place(text: &[u8], begin: usize, end: usize) -> Option<usize>
+pub(crate) fn last_place(text: &[u8], begin: usize, end: usize) -> Option<usize>
     ensures is { result ≡ last_place text.now begin end }
     ensures within { IfSome result (λ at. (begin ≤ at) × (at < end)) }
 {
@@ -231,18 +238,23 @@ fn first_step(lines: &[TextLine]) -> (Option<TextLine>, &[TextLine])
     (None, rest)
 }
 
-/// The doubt of what a comment has, or a sign stands for.
-fn shown_by(said: Option<usize>, sign: Option<usize>) -> Option<Doubt>
-    ensures { result ≡ shown_by said sign }
+/// The doubt of a place of a text, if there is one.
+fn doubt_if(reason: u8, place: Option<usize>) -> Option<Doubt>
+    ensures { result ≡ option_map (doubt reason) place }
 {
-    match (said, sign) {
-        (Some(at), _) => Some(Doubt {
-            reason: MOVES_BELONG,
-            at,
-        }),
-        (None, Some(at)) => Some(Doubt { reason: SIGNS, at }),
-        (None, None) => None,
+    match place {
+        Some(at) => Some(Doubt { reason, at }),
+        None => None,
     }
+}
+
+/// The doubt of what a comment has, or of a letter that may be of words, or of what a sign stands for.
+fn shown_by(said: Option<usize>, letter: Option<usize>, sign: Option<usize>) -> Option<Doubt>
+    ensures { result ≡ shown_by said letter sign }
+{
+    doubt_if(MOVES_BELONG, said)
+        .or(doubt_if(COMMENT, letter))
+        .or(doubt_if(SIGNS, sign))
 }
 
 /// What stands between two steps in a text.
@@ -347,7 +359,9 @@ impl<'a> Border<'a> {
         ensures { result ≡ false → (turn : Turn) →
             shown_between self.now.text.now self.now.behind self.now.before self.now.has_one_sign turn ≡ None }
     {
-        self.may_say(&self.behind) || (self.may_say(&self.before) || self.sign().is_some())
+        self.may_say(&self.behind)
+            || (self.may_say(&self.before)
+                || (may_stand(self.text, &self.behind, &self.before) || self.sign().is_some()))
     }
 
     /// The doubt that a turn belongs there, if the text shows it.
@@ -357,6 +371,7 @@ impl<'a> Border<'a> {
         let said = self
             .said_in(&self.behind, turn.face)
             .or(self.said_in(&self.before, turn.face));
-        shown_by(said, self.sign())
+        let letter = letter_between(self.text, &self.behind, &self.before, turn);
+        shown_by(said, letter, self.sign())
     }
 }

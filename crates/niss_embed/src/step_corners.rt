@@ -113,7 +113,7 @@ impl StepCorners {
     /// The moves of this step and of later ones outside brackets, and then the inverse of those inside. The step stands in
     /// brackets or not; if it has some, none stand around it.
     #[inline(never)]
-    fn with_later(&self, later: &Corners, in_brackets: bool) -> Corners
+    pub fn with_later(&self, later: &Corners, in_brackets: bool) -> Corners
         ensures { (bytes more : List ℕ) → Reads bytes self.now → IsTail more later.now.to → StaysDead bytes more →
             IsTail (in_brackets_if in_brackets bytes ++ more) result.to }
     {

@@ -8,7 +8,7 @@ ghost use Rattle.niss_embed.specs.ShownTurn.{suffix_byte, turn_bytes, goes_on, i
 use niss_moves::{Face, Power, Turn};
 
 /// The letter of a face.
-fn letter(face: Face) -> u8
+pub(crate) fn letter(face: Face) -> u8
     ensures is { result ≡ face_letter face }
     ensures capital { result ≤ 90 }
 {

@@ -78,7 +78,7 @@ fn is_turned_at(whole: &WholeSteps, around: &Around, number: usize) -> bool
 }
 
 /// The doubt that moves belong before the step of a number.
-fn doubt_at(lines: &[TextLine], number: usize) -> Option<Doubt>
+pub(crate) fn doubt_at(lines: &[TextLine], number: usize) -> Option<Doubt>
     ensures { result ≡ doubt_at_step lines.now (Some number) }
 {
     match step_at(lines, number) {

@@ -1,12 +1,14 @@
-//! What makes one doubt an attempt of which no part solves: that a turn was lost, or that the cube was turned.
+//! What makes one doubt an attempt of which no part solves: that a turn was lost, the cube was turned, or a step was moved.
 ghost use Rattle.std.specs.Prelude.{◌≡◌, ◌<◌, ◌≤◌, Ok, length};
+ghost use Rattle.niss_embed.specs.Between.{AreWhole};
 ghost use Rattle.niss_embed.specs.Corners.{AreBounds};
 ghost use Rattle.niss_embed.specs.Parts.{bounds_of};
-ghost use Rattle.niss_embed.specs.WholeDoubt.{IsLostOrTurned, IsLostOrTurnedIn, is_beyond};
+ghost use Rattle.niss_embed.specs.WholeDoubt.{IsTurnedOrMovedIn, IsWholeDoubt, IsWholeDoubtIn, is_beyond};
 
 use crate::attempts::Doubt;
 use crate::line_texts::read_by;
 use crate::lost_turn::lost_turn;
+use crate::moved_step::moved_step;
 use crate::parts::MOST_STEP_BYTES;
 use crate::shown_turn::count_steps;
 use crate::step_bounds::bounds_of;
@@ -27,8 +29,19 @@ fn is_beyond(scramble: &[u8], steps: &[u8], bounds: &[usize], lines: &[TextLine]
         || (scramble.len() > MOST_BYTES || steps.len() > MOST_STEP_BYTES)
 }
 
+/// The doubt that the cube was turned before a step, or else that one belongs elsewhere.
+fn turned_or_moved(whole: &WholeSteps, lines: &[TextLine]) -> Option<Doubt>
+    requires whole { AreWhole whole.now }
+    ensures { IsTurnedOrMovedIn (Ok whole.now.scramble.now) whole.now.steps.now whole.now.bounds.now lines.now result }
+{
+    match turned_cube(whole, lines) {
+        Some(turned) => Some(turned),
+        None => moved_step(whole, lines),
+    }
+}
+
 /// The doubt of steps that begin and end at these places.
-fn lost_or_turned(
+fn doubt_of_steps(
     scramble: &Niss,
     steps: &[u8],
     bounds: &[usize],
@@ -38,7 +51,7 @@ fn lost_or_turned(
     requires few { (0 < length bounds.now) × (length bounds.now ≤ 13) }
     requires bounds { AreBounds bounds.now }
     requires room { length steps.now ≤ 65536 }
-    ensures { IsLostOrTurnedIn (Ok scramble.now) steps.now bounds.now text.now lines.now result }
+    ensures { IsWholeDoubtIn (Ok scramble.now) steps.now bounds.now text.now lines.now result }
 {
     let corners = AttemptCorners::of(scramble, steps, bounds);
     let whole = WholeSteps {
@@ -49,19 +62,20 @@ fn lost_or_turned(
     };
     match lost_turn(&whole, text, lines) {
         Some(lost) => Some(lost),
-        None => turned_cube(&whole, lines),
+        None => turned_or_moved(&whole, lines),
     }
 }
 
 /// The doubt that with a turn before a step of an attempt, or after the last one, all steps solve the scramble, and that the
-/// text shows it there; or else that they do if the cube is turned before one. The steps stand a line each.
+/// text shows it there; or else that they do if the cube is turned before one; or else if one stands elsewhere. The steps stand a
+/// line each.
 pub fn doubt_of_whole(
     scramble: &[u8],
     steps: &[u8],
     text: &[u8],
     lines: &[TextLine],
 ) -> Option<Doubt>
-    ensures { IsLostOrTurned scramble.now steps.now text.now lines.now result }
+    ensures { IsWholeDoubt scramble.now steps.now text.now lines.now result }
 {
     let bounds = bounds_of(steps);
     if is_beyond(scramble, steps, &bounds, lines) {
@@ -69,7 +83,7 @@ pub fn doubt_of_whole(
     }
     let mut reader = LineReader::new();
     match read_by(&mut reader, scramble) {
-        Ok(scramble) => lost_or_turned(scramble, steps, &bounds, text, lines),
+        Ok(scramble) => doubt_of_steps(scramble, steps, &bounds, text, lines),
         Err(_) => None,
     }
 }

@@ -1,6 +1,6 @@
 use Rattle.std.proofs.Common.{◌∙◌, ◌-◌, ap, sym, arith}
 use Rattle.std.specs.Prelude.{not, slice_index}
-use Rattle.niss_embed.specs.ShownTurn.{is_blank}
+use Rattle.niss_embed.specs.Blanks.{is_blank}
 use Rattle.niss_embed.proofs.LostLemmas.{find_passed}
 use Rattle.niss_embed.proofs.shown_turn.last_place.Goals as goal
 

@@ -1,7 +1,7 @@
 use Rattle.std.proofs.Common.{◌≡◌, ◌-◌}
 use Rattle.std.specs.Prelude.{find, not, slice_index}
 use Rattle.std.specs.List.{range_with_len}
-use Rattle.niss_embed.specs.ShownTurn.{blanks_before, is_blank}
+use Rattle.niss_embed.specs.Blanks.{blanks_before, is_blank}
 use Rattle.niss_embed.proofs.shown_turn.last_place.Given as goal
 
 abbrev pub invariant-loop-blanks : goal.invariant-loop-blanks
