@@ -27,7 +27,7 @@ from tally import Tally
 # in the order in which they are dealt out to the browsers
 PARTS = (
     "keyboard faults workers addresses best searches at_once turned steps line kept focus stops phone narrow sizes settings filters looks still "
-    "trifles further desk first ahead teacher attempts scrambles passage compared walk"
+    "trifles further desk first ahead teacher marks attempts scrambles brought passage compared walk"
 ).split()
 # how many signs of a fault are shown
 LONGEST_WORDS = 600

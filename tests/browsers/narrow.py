@@ -58,6 +58,30 @@ IN_VIEW = """
 BROKEN = """
     return all("#solutions-groups .take").filter((each) => each.textContent.split(" ").length <= 8
         && each.clientHeight >= (1 + arguments[0]) * parseFloat(getComputedStyle(each).lineHeight)).map((each) => each.textContent)"""
+# of each row of the best on how many lines its moves stand, how far what is drawn of them is from the border above and below, how far the words of
+# the other columns are from the middle of the moves, and how far above the line of the first reduction
+AIR = """const pen = document.createElement('canvas').getContext('2d');
+    const textsIn = (node) => node.nodeType === 3 ? [node] : [...node.childNodes].flatMap(textsIn);
+    const linesOf = (each) => textsIn(each).flatMap((text) => {
+        const range = document.createRange();
+        range.selectNodeContents(text);
+        return [...range.getClientRects()];
+    });
+    const [least, most] = [(boxes) => Math.min(...boxes.map(({ top }) => top)), (boxes) => Math.max(...boxes.map(({ bottom }) => bottom))];
+    return all('#best-body tr').map((row) => {
+        const [take, first] = ['.take', '.first'].map((name) => row.querySelector(name));
+        const [box, lines] = [take.getBoundingClientRect(), linesOf(take)];
+        pen.font = getComputedStyle(take).font;
+        const sign = pen.measureText("(R2')");
+        const above = least(lines) + sign.fontBoundingBoxAscent - sign.actualBoundingBoxAscent - box.top - take.clientTop;
+        const below = box.bottom - take.clientTop - most(lines) + sign.fontBoundingBoxDescent - sign.actualBoundingBoxDescent;
+        const others = [...row.querySelectorAll('th, .axis, .number, .star')].map(linesOf);
+        const middles = others.map((each) => (least(each) + most(each) - box.top - box.bottom) / 2);
+        return [new Set(lines.map(({ top }) => Math.round(top))).size, [above, below], Math.max(...middles.map(Math.abs)),
+            least(linesOf(first)) - most(others.flat())];
+    })"""
+# so far drawn moves are from the border of their button, in points
+LEAST_AIR = 2
 # rows of the best in which what is reached and what follows don't stand on one line
 UNEVEN = """const top = (words) => {
         const range = document.createRange();
@@ -245,6 +269,28 @@ def has_rows(tally: Tally, browser: Browser) -> None:
         tally.holds(f"{width}: heights of rows: {min(heights)}, {max(heights)}", max(heights) - min(heights) <= 0.5)
         tally.equal(f"{width}: parts of a row on each other", [row for row in rows if row["on"]], [])
         tally.equal(f"{width}: rows whose cells aren't level", browser.script(UNEVEN), [])
+
+
+def has_air(tally: Tally, browser: Browser) -> None:
+    """Beside a mouse moves on several lines don't touch the border of their button; the columns are level with it, and the first reduction, which may
+    be longer than its column, has the line below for itself."""
+    browser.resize(1280, 900)
+    browser.open(SCRAMBLE)
+    browser.choose("best-slack", "2")
+    browser.wait_best()
+    browser.script("part('best-more').click()")
+    browser.wait_best()
+    for width in (960, 1180, 1280, 1440, 1920):
+        browser.resize(width, 900)
+        rows = browser.script(AIR)
+        several = [min(air) for lines, air, *_ in rows if lines > 1]
+        if width == 1280:
+            tally.holds(f"{width}: some stand on several lines: {len(several)} of {len(rows)}", several)
+        tally.holds(f"{width}: how far they are from the border: {several[:5]}", min(several, default=9) >= LEAST_AIR)
+        off = max(off for _, _, off, _ in rows)
+        tally.holds(f"{width}: the columns are level with the moves: {off}", off <= 2.5)
+        apart = min(apart for *_, apart in rows)
+        tally.holds(f"{width}: the first reduction stands below all columns: {apart}", apart >= 4)
 
 
 def has_headings(tally: Tally, browser: Browser) -> None:

@@ -60,10 +60,9 @@ def marked(tally: Tally, browser: Browser) -> None:
     )
     looks = """return ['.bad', '.sticker:not(.bad)'].map((each) => document.querySelector(`#net-normal ${each}`)).map((it) => {
         const own = getComputedStyle(it.querySelector('rect'));
-        return [own.fill, own.strokeWidth, getComputedStyle(it.querySelector('.dot')).visibility]; })"""
-    (_, wide, dot), (grey, thin, none) = browser.script(looks)
-    has_ring = float(wide[:-2]) > 2 * float(thin[:-2])
-    tally.equal("a bad one has a ring and a dot, another neither", (has_ring, dot, none), (True, "visible", "hidden"))
+        return [own.fill, getComputedStyle(it.querySelector('.mark')).visibility]; })"""
+    (_, mark), (grey, none) = browser.script(looks)
+    tally.equal("a bad one has a ring and a dot, another neither", (mark, none), ("visible", "hidden"))
     parts = [int(part) for part in re.findall(r"\d+", grey)]
     tally.holds(f"the rest is grey: {parts}", max(parts) - min(parts) < 20)
     named = re.search(

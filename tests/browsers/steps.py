@@ -237,3 +237,18 @@ def says_in_all(tally: Tally, browser: Browser) -> None:
         list(dict.fromkeys(head.split(", trigger")[0] for head in heads)),
         [f"{length} moves, {total} in all" for total, _ in counts],
     )
+
+
+def lists_none_that_goes_on(tally: Tally, browser: Browser) -> None:
+    """What the help of a list says isn't listed is not: solutions that go on once the step is reached, though they reach it in the end."""
+    named = ["F R", "F R L2", "F L2 R"]
+    # the cube after it is solved by F R, and no turn alone orients the edges on R/L
+    browser.open("#scramble=R-_F-&list=eorl.normal.1.all")
+    tally.equal("the help's example", browser.texts("#help-list b")[-3:], named)
+    tally.equal("the list", browser.text("solutions-heading"), "EO R/L, normal side")
+    for moves in named:
+        tally.equal(f"{moves}: bad edges", Position("R' F'", moves).bad_edges("rl"), 0)
+        browser.script(TYPE, moves)
+        found = browser.listed()
+        tally.equal(f"{moves}: it is listed", moves in found, moves == named[0])
+        tally.equal(f"{moves}: it is in others", [each for each in found if moves not in each], [])

@@ -39,10 +39,22 @@ COUNTED = """const more = part('best-more');
 # list has, whether it is hidden, and where the cube's card begins on the page
 TAKE = """scrollTo({ top: 0, behavior: 'instant' });
     window.frames_seen = [];
+    // what is pressed may be stopped before it comes to the cell
+    const hears = (cell) => {
+        const end = new AbortController();
+        let hasHeard = false;
+        cell.addEventListener('click', (event) => {
+            hasHeard = true;
+            event.stopImmediatePropagation();
+        }, { capture: true, signal: end.signal });
+        cell.dispatchEvent(new Event('click'));
+        end.abort();
+        return hasHeard;
+    };
     const look = () => {
         const cell = document.querySelector('#steps-body .cell');
         const { top } = part('cube').getBoundingClientRect();
-        window.frames_seen.push([cell !== null && cell.closest('[inert]') === null, Math.round(scrollY),
+        window.frames_seen.push([cell !== null && cell.closest('[inert]') === null && hears(cell), Math.round(scrollY),
             all('#solutions-groups .take').length, part('solutions').hidden, Math.round(top + scrollY)]);
         if (window.frames_seen.length < 600) requestAnimationFrame(look);
     };
@@ -201,7 +213,7 @@ def at_sizes(tally: Tally, browser: Browser) -> None:
 
 
 def draws_once(tally: Tally, browser: Browser) -> None:
-    """For a list that opens, whose first row has the focus, the nets are drawn once; after a step for its cube, and for the cell that has the focus."""
+    """A list that opens, with the focus on its first row, has the nets drawn once; a step too, or twice if it takes a while."""
     drawn = """window.drawn = 0;
         const net = document.querySelector("#net-normal .net");
         new MutationObserver((all) => { window.drawn += all.length; }).observe(net, { attributeFilter: ["aria-label"] })"""
@@ -213,7 +225,8 @@ def draws_once(tally: Tally, browser: Browser) -> None:
     for what, selector, most in (("a list", '[data-cell="eorl.normal"]', 1), ("a step", "#solutions-groups .take", 2)):
         browser.act(selector)
         browser.wait_best()
-        tally.equal(f"how often {what} draws the nets", browser.script(count), most)
+        times = browser.script(count)
+        tally.holds(f"how often {what} draws the nets: {times}", 0 < times <= most)
 
 
 def waits(tally: Tally, browser: Browser) -> None:

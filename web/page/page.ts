@@ -2,7 +2,7 @@
 import { NissyFault, Stopped } from "../module/shared/faults.js";
 import { emptyState, hasLines, readAddress, type List, type State } from "./state/address.js";
 import { BestContinuations } from "./cards/best.js";
-import { Readiness, type Calls } from "./shared/questions.js";
+import { Readiness, comesSoon, type Calls } from "./shared/questions.js";
 import { lastOf } from "./shared/certain.js";
 import { Nets } from "./cards/cube.js";
 import { announce, announceLater, part, setBusy, spoken, tell, withData } from "./shared/element.js";
@@ -11,7 +11,7 @@ import { DeskStrip, type Keeping } from "./cards/scrambles-on-desk.js";
 import { KeptCandidates } from "./cards/kept.js";
 import { LineSoFar } from "./cards/line.js";
 import { asCopied, withOthers } from "./state/kept-lines.js";
-import { Seen, WayBack, dropAddress, keepPlace, placeIn } from "./state/history.js";
+import { Seen, WayBack, dropAddress, placeIn, placeNow } from "./state/history.js";
 import { refreshRows, type StarActs } from "./shared/rows.js";
 import { ScrambleField, type ScrambleChange } from "./cards/scramble.js";
 import { SolutionList } from "./cards/solutions.js";
@@ -91,6 +91,9 @@ export class Page {
       lengthen: (longer) => this.#change({ longer }),
     });
     keepInView(part("side-column"));
+    // what gives way to an answer is pressed no more, also before it is dimmed
+    const choices = part("choices");
+    choices.addEventListener("click", (event) => this.#cube || choices.inert || event.stopPropagation(), true);
     part("skip").addEventListener("click", () => this.#table.focus());
     part("again").addEventListener("click", () => this.#tryAgain());
     this.#listenToKeys();
@@ -101,10 +104,8 @@ export class Page {
     const onLine = (act: () => unknown) => () => part("line").inert || act();
     listenToKeys({
       ...Object.fromEntries([1, 2, 3, 4, 5, 6].map((number) => [String(number), () => this.#table.press(number - 1)])),
-      n: onLine(() => this.#line.turn("normal")),
-      i: onLine(() => this.#line.turn("inverse")),
-      u: onLine(() => this.#line.undoStep()),
-      s: onLine(() => star(() => this.#starLine())),
+      n: onLine(() => this.#line.turn("normal")), i: onLine(() => this.#line.turn("inverse")),
+      u: onLine(() => this.#line.undoStep()), s: onLine(() => star(() => this.#starLine())),
       "/": () => (this.#state.list && !part("results").inert ? part("filter").focus() : this.#scramble.focus()),
       Escape: () => this.#state.list && this.#changeList(null),
     });
@@ -161,14 +162,14 @@ export class Page {
   #change(change: Partial<State>, { focusNext, isStep = "parts" in change, ...ofScramble }: ChangeOptions = {}) {
     this.#nextFocus.set(focusNext);
     this.#wayBack.set(null);
-    if ("parts" in change) keepPlace();
+    const place = "parts" in change ? placeNow() : null;
     this.#state = { ...this.#state, ...("parts" in change ? { list: null } : {}), ...change };
     const isOther = "scramble" in change || "parts" in change || this.#isReading;
     if (isOther) tell(part("alert"), "");
     // the engine is asked first, and answers meanwhile
-    if (isOther) this.#refresh();
+    if (isOther) this.#refresh(focusNext !== undefined);
     else this.#showList();
-    this.#desk.keep(this.#state, { isStep, ...ofScramble });
+    this.#desk.keep(this.#state, { isStep, place, ...ofScramble });
     if (isOther) return;
     this.#line.turnTo(this.#state.side);
     if ("kept" in change) this.#showKept();
@@ -198,8 +199,8 @@ export class Page {
     }
   }
 
-  /** Shows all of the state anew. A later call overtakes an earlier one. */
-  async #refresh() {
+  /** Shows all of the state anew. A later call overtakes an earlier one. @param isTaken whether a row leads to it */
+  async #refresh(isTaken = false) {
     const turn = ++this.#turn;
     const { scramble, parts } = this.#state;
     // looked at before anything changes, but for a page that begins: for each look the page is laid out by itself
@@ -214,15 +215,20 @@ export class Page {
     document.title = titleOfPage(this.#state);
     this.#nets.stop();
     this.#scramble.tellDoubt(null);
+    this.#line.hold(parts);
+    this.#best.leave();
+    announceLater("");
+    tellFailed("");
+    setBusy("results", true);
+    // what gives way to what comes soon isn't laid out without that
+    if (isTaken && areBeside()) await comesSoon(asked);
+    if (turn !== this.#turn) return;
     this.#line.show(parts);
     this.#line.turnTo(this.#state.side);
     this.#kept.show(this.#state.kept);
     this.#table.hold();
     if (!this.#state.list) this.#list.show("", null, null);
     this.#best.reset(null);
-    announceLater("");
-    tellFailed("");
-    setBusy("results", true);
     try {
       await this.#answer(turn, asked, wasAtTop);
     } catch (fault) {
@@ -309,10 +315,8 @@ export class Page {
     this.#goBack();
   }
 
-  #goBack() {
-    this.#wayBack.go((key) => this.#best.reveal(key) ?? this.#list.reveal(key) ?? this.#table.cell(key)
-      ?? withData(part("line-list"), "key", key));
-  }
+  #goBack = () => this.#wayBack.go((key) => this.#best.reveal(key) ?? this.#list.reveal(key) ?? this.#table.cell(key)
+    ?? withData(part("line-list"), "key", key));
 
   async #showList() {
     const { list } = this.#state;
@@ -337,10 +341,8 @@ export class Page {
   }
 
   /** Keeps the line so far, with the reduction that is gone on to, or takes it away. */
-  #starLine() {
-    const { parts } = this.#state;
-    if (parts.length > 0) this.#kept.star(this.#state, part("keep-line"), parts, this.#next());
-  }
+  #starLine = () => this.#state.parts.length > 0
+    && this.#kept.star(this.#state, part("keep-line"), this.#state.parts, this.#next());
 
   /** @param side of the list, which is opened, or closed if it is open */
   #open(step: Step, side: Side) {

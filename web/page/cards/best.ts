@@ -72,10 +72,9 @@ export class BestContinuations {
 
   /** Takes another cube, or none, and looks for the best of it. */
   reset(cube: CubeOfBest | null) {
-    this.#stop();
-    if (cube?.scramble !== this.#question?.scramble) this.#further.measure.begin();
+    this.leave();
+    this.#further.measure.begin();
     this.#question = cube && { ...cube, slack: 0 };
-    [this.#progress, this.#newer] = [null, null];
     this.#seen = [];
     this.#room.style.minHeight = "";
     this.#counts.clear();
@@ -141,6 +140,12 @@ export class BestContinuations {
     return takeNamed(this.#body, key);
   }
 
+  /** Gives up what is looked for, since another cube is to come. */
+  leave() {
+    this.#stop();
+    [this.#question, this.#progress, this.#newer] = [null, null, null];
+  }
+
   #stop() {
     this.#again = null;
     this.#further.stop();
@@ -176,7 +181,6 @@ export class BestContinuations {
     const known = this.#found.of(question);
     if (!known) return void this.#find(question, this.#found.shorter(question));
     this.#show(known);
-    this.#goFurther();
   }
 
   /** Has all rows found, if the first ones are too few for what is shown, or counted. */
@@ -186,14 +190,6 @@ export class BestContinuations {
     const isEnough = this.#progress.rows.length >= this.#shown && this.#filters.count === 0;
     if (isEnough && !part("best-options").open) return;
     this.#find(present(this.#question), this.#progress, true);
-  }
-
-  /** Goes on from what was found, by itself as far as it may. */
-  #goFurther() {
-    this.#working(false);
-    this.#complete();
-    if (this.#isAsked) return;
-    this.#further.begin({ ...present(this.#question), slack: present(this.#waiting() ?? this.#progress).slack });
   }
 
   #foundFurther(progress: Further) {
@@ -246,10 +242,9 @@ export class BestContinuations {
         if (!isStill()) return;
         this.#found.keep({ ...question, slack }, found);
         this.#progress = found;
-        this.#draw();
+        if (slack !== wanted) this.#draw();
       }
       this.#show(present<Further>(this.#progress));
-      this.#goFurther();
     } catch (fault) {
       if (!isStill()) return;
       this.#stop();
@@ -293,11 +288,14 @@ export class BestContinuations {
     if (!isAsked && this.#progress) this.#counts.tell(present(this.#question), this.#seen);
   }
 
+  /** Shows what was found, and goes on from it, by itself as far as it may. */
   #show(progress: Further) {
     this.#progress = progress;
-    this.#working(false);
     this.#draw();
+    this.#working(false);
     this.acts.shown();
+    this.#complete();
+    if (!this.#isAsked) this.#further.begin({ ...present(this.#question), slack: (this.#waiting() ?? progress).slack });
   }
 
   #rows(progress: Further | null) {

@@ -54,16 +54,18 @@ function noteOfJoined({ parts, facts }: Walk) {
   return "Not finished: the inverse moves stand at the end as premoves, and what follows goes before them.";
 }
 
-/** Has lines that are pasted go into a field of one line without comments, of which the first would hide the rest. */
+/** Has lines that come at once go into a field of one line without comments, of which the first would hide the rest. */
 function takeLines(field: PageElement, reader: Reader) {
-  field.addEventListener("paste", (event) => {
-    const text = (event.clipboardData?.getData("text/plain") ?? "").trim().replace(/\r\n?/g, "\n");
+  const take = (event: Event, brought: string) => {
+    const text = brought.trim().replace(/\r\n?/g, "\n");
     if (!text.includes("\n") || text.length > LONGEST_PASTED) return;
     event.preventDefault();
     const { line, leftOut } = reader.plainLine(text);
     document.execCommand("insertText", false, line);
     tell(part("own-read"), wordsOfLeftOut(leftOut));
-  });
+  };
+  field.addEventListener("paste", (event) => take(event, event.clipboardData?.getData("text/plain") ?? ""));
+  field.addEventListener("beforeinput", (event) => take(event, event.data ?? ""));
 }
 
 /** `change` returns whether it leads back to a row. */
@@ -117,12 +119,16 @@ export class LineSoFar {
     if (this.#parts.length > 0) this.#replace(this.#parts.length - 1, [], 1);
   }
 
+  /** Takes parts, which `show` shows. */
+  hold(parts: Part[]) {
+    this.#reached = this.#wanted ?? keptOf(this.#reached, this.#parts, parts);
+    [this.#wanted, this.#doubt] = [null, null];
+    this.#parts = parts;
+  }
+
   /** Shows the parts at once; what the engine says of them comes by `describe`. */
   show(parts: Part[]) {
-    this.#reached = this.#wanted ?? keptOf(this.#reached, this.#parts, parts);
-    this.#wanted = null;
-    this.#doubt = null;
-    this.#parts = parts;
+    this.hold(parts);
     this.#words = parts.map((each) => ({
       moves: element("span", { class: "moves" }, bracketed([each])),
       reaches: element("span", { class: "reaches", hidden: true }),

@@ -6,6 +6,8 @@ import { inner } from "../shared/element.js";
 const SVG = "http://www.w3.org/2000/svg";
 const PITCH = 10;
 const GAP = 2;
+/** A ring around the letter, with a dot on its corner, both of one turn so that they are one. */
+const MARK = "M1 1h8v8H1zM1.9 1.9v6.2h6.2V1.9zM7.8 1a1.2 1.2 0 1 1-.01 0z";
 
 function shape(name: string, attributes: Record<string, string | number>) {
   const made = document.createElementNS(SVG, name);
@@ -18,11 +20,10 @@ const distanceOf = (number: number) => number * PITCH + Math.floor(number / 3) *
 function emptySticker() {
   // the label of the net has all letters, by faces
   const group = shape("g", { class: "sticker", "aria-hidden": "true" });
-  group.append(shape("rect", { x: 0.6, y: 0.6, width: PITCH - 1.2, height: PITCH - 1.2, rx: 1.4 }));
+  const colour = shape("rect", { x: 0.6, y: 0.6, width: PITCH - 1.2, height: PITCH - 1.2, rx: 1.4 });
   const letter = shape("text", { x: PITCH / 2, y: PITCH / 2 + 2, "text-anchor": "middle" });
   letter.append("");
-  group.append(letter);
-  group.append(shape("circle", { class: "dot", cx: PITCH - 2.4, cy: 2.4, r: 1.3 }));
+  group.append(colour, letter, shape("path", { class: "mark", d: MARK }));
   return group;
 }
 

@@ -39,39 +39,30 @@ export class ScrambleField {
   #turn = 0;
   #leftOut: string[] = [];
   #isRead = false;
-  /** the scramble that was read last, and whether what is pasted, or typed, takes the place of all of it */
+  /** the scramble that was read last, whether what comes next comes at once, and whether in the place of all of it */
   #last = "";
+  #isWhole = false;
   #isReplaced = false;
   /** whether it was deleted, and whether the browser's history has an entry of its own for what is typed since */
   #isEmptied = false;
   #isDraft = false;
   /** whether the field has no room for the end of what is pasted */
   #isCut = false;
-  /** the text that was read last, and what makes one doubt how it was read */
+  /** the text that was read last, what the field has of it, and what makes one doubt how it was read */
   #lastText = "";
-  /** what the field has of it */
   #shown = "";
   #doubt: AttemptDoubt | null = null;
 
   constructor(private readonly calls: Calls, private readonly reader: Reader, private readonly acts: ScrambleActs) {
     this.#field.maxLength = LONGEST_SCRAMBLE;
     this.#field.addEventListener("input", (event) => this.#typed(event instanceof InputEvent ? event.inputType : ""));
-    this.#field.addEventListener("paste", (event) => {
-      const { value, selectionStart, selectionEnd } = this.#field;
-      const pasted = event.clipboardData?.getData("text").replace(/\r\n?/g, "\n") ?? "";
-      const isCopy = sheetsIn(pasted).length > 0;
-      this.#isReplaced = !isCopy && selectionStart === 0 && selectionEnd === value.length;
-      // the browser takes as much of it as the field has room for, without a word
-      this.#isCut = !isCopy && value.length - (selectionEnd - selectionStart) + pasted.length > LONGEST_SCRAMBLE;
-      // what a page copied is taken as a whole, wherever it is pasted
-      if (!isCopy) return;
-      event.preventDefault();
-      this.#read(pasted, true, true);
-    });
-    this.#field.addEventListener("beforeinput", ({ inputType }) => {
-      const { value, selectionStart, selectionEnd } = this.#field;
-      const isAll = value.trim() !== "" && selectionStart === 0 && selectionEnd === value.length;
-      if (isAll && inputType.startsWith("insert") && inputType !== "insertFromPaste") this.#isEmptied = true;
+    this.#field.addEventListener("paste", (event) =>
+      this.#comes(event, event.clipboardData?.getData("text") ?? "", true));
+    this.#field.addEventListener("beforeinput", (event) => {
+      const { inputType, data, isComposing } = event;
+      if (inputType === "insertFromPaste" || !inputType.startsWith("insert")) return;
+      // a keyboard or a drop may bring several words at once; those that are composed come one after another
+      this.#comes(event, data ?? "", (isComposing ? /\S\s*\n\s*\S/ : /\S\s+\S/).test(data ?? ""));
     });
     addEventListener("hashchange", () => this.#overtake());
     part("random").addEventListener("click", () => this.#draw());
@@ -148,14 +139,36 @@ export class ScrambleField {
     this.#turn++;
   }
 
+  /** Looks at a text before the field has it. @param isWhole whether it comes at once, as what is pasted does */
+  #comes(event: Event, brought: string, isWhole: boolean) {
+    const { value, selectionStart, selectionEnd } = this.#field;
+    const text = brought.replace(/\r\n?/g, "\n");
+    const isAll = selectionStart === 0 && selectionEnd === value.length;
+    const isCopy = isWhole && sheetsIn(text).length > 0;
+    [this.#isWhole, this.#isReplaced] = [isWhole, isWhole && isAll && !isCopy];
+    if (!isWhole && isAll && value.trim() !== "") this.#isEmptied = true;
+    // the browser takes as much of it as the field has room for, without a word
+    const room = LONGEST_SCRAMBLE - value.length + (selectionEnd - selectionStart);
+    this.#isCut = isWhole && !isCopy && text.length > room;
+    // what a page copied is taken as a whole, wherever it is put
+    if (!isCopy) return;
+    event.preventDefault();
+    this.#read(text, true, true);
+  }
+
   #typed(how: string) {
     this.#overtake();
-    const isReplaced = this.#isReplaced;
-    this.#isReplaced = false;
-    // what is pasted is whole
-    if (how === "insertFromPaste") return this.#read(this.#field.value, isReplaced, true);
-    this.#isCut = false;
-    this.#timer = setTimeout(() => this.#read(this.#field.value, false, false), PAUSE);
+    const isPasted = how === "insertFromPaste";
+    const isWhole = isPasted || this.#isWhole;
+    if (!isWhole) this.#isCut = false;
+    const read = () => {
+      const isReplaced = this.#isReplaced;
+      [this.#isWhole, this.#isReplaced] = [false, false];
+      this.#read(this.#field.value, isReplaced, isWhole);
+    };
+    if (isPasted) return read();
+    // of what a keyboard brings at once a browser tells line by line
+    this.#timer = setTimeout(read, isWhole ? 0 : PAUSE);
   }
 
   /** Whether what was kept, and copied, was edited since: then its lines count, and not the address below them. */

@@ -2,8 +2,9 @@
 import { copy } from "../shared/copying.js";
 import { announce, counted, element, part, tell } from "../shared/element.js";
 import { addressOf, emptyState, type State } from "../state/address.js";
-import { Desk, stateOfBoth, stateOfSheet, textOfDesk, type NewSheet, type Sheet } from "../state/desk.js";
+import { Desk, stateOfSheet, textOfDesk, type NewSheet, type Sheet } from "../state/desk.js";
 import { keepPlace, keepSheet, placeNow, sheetOfEntry, writeState, type Place } from "../state/history.js";
+import { joinedStates } from "../state/kept-lines.js";
 import { tellAt } from "../shared/view.js";
 
 const NOT_KEPT = "This browser keeps nothing of what is done here: take it along by Copy all.";
@@ -11,8 +12,8 @@ const NOT_KEPT = "This browser keeps nothing of what is done here: take it along
 /** `place`: where one was, if the address doesn't say; `written`: where it stands in a text, if it isn't opened yet. */
 type Arrived = { state: State; place: Place | null; written: Sheet["written"] };
 
-/** Whether Back leads to what was before, and whether a scramble came by chance, or is a draft, which has no sheet. */
-export type Keeping = { isStep: boolean; isDrawn?: boolean; isDraft?: boolean };
+/** Whether Back leads to what was before; where one was; whether a scramble came by chance, or is a draft: no sheet. */
+export type Keeping = { isStep: boolean; place?: Place | null; isDrawn?: boolean; isDraft?: boolean };
 
 function chipOf(sheet: Sheet, at: number, isShown: boolean) {
   const { scramble, kept } = stateOfSheet(sheet);
@@ -47,30 +48,28 @@ export class DeskStrip {
     const [before, sheet] = [sheetOfEntry(), this.#desk.turnTo(read.scramble, sheetOfEntry())];
     this.show();
     if (sheet === null) return { state: read, place: null, written: null };
-    const isBack = sheet.id === before;
-    const state = stateOfBoth(sheet, read, isBack);
-    return { state, place: isBack ? null : sheet.place, written: sheet.written };
+    const [own, { written }] = [stateOfSheet(sheet), sheet];
+    // what the history had for the sheet takes no line that is kept away
+    if (sheet.id === before) return { state: { ...read, kept: own.kept }, place: null, written };
+    return { state: joinedStates(own, read), place: sheet.place, written };
   }
 
   /** Has the desk hold what an address led to, and the address too if more than that is shown. */
   settle(read: State, state: State) {
     this.#hold(state, false);
-    if (addressOf(state) !== addressOf(read)) this.#write(state, false);
+    if (addressOf(state) !== addressOf(read)) writeState(state, false, this.#desk.shown?.id ?? 0);
     else keepSheet(this.#desk.shown?.id ?? 0);
   }
 
-  keep(state: State, { isStep, isDrawn = false, isDraft = false }: Keeping) {
+  keep(state: State, { isStep, place = null, isDrawn = false, isDraft = false }: Keeping) {
+    if (place) keepPlace(place);
     if (!isDraft) this.#hold(state, isDrawn);
-    this.#write(state, isStep);
+    writeState(state, isStep, this.#desk.shown?.id ?? 0);
   }
 
   #hold(state: State, isDrawn: boolean) {
     this.#desk.keep(state, isDrawn);
     this.show();
-  }
-
-  #write(state: State, isStep: boolean) {
-    writeState(state, isStep, this.#desk.shown?.id ?? 0);
   }
 
   /** Keeps where one is, since another scramble is about to be shown. */

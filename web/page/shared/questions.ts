@@ -18,8 +18,8 @@ export function workersOf(script: string): () => Promise<Worker> {
     // not before it was read
     worker.addEventListener("message", () => URL.revokeObjectURL(address), { once: true });
     // an answer that can't be read would be waited for
-    const unread = () => new ErrorEvent("error", { message: UNREADABLE });
-    worker.addEventListener("messageerror", () => worker.dispatchEvent(unread()));
+    const unread = () => worker.dispatchEvent(new ErrorEvent("error", { message: UNREADABLE }));
+    worker.addEventListener("messageerror", unread);
     return worker;
   };
   let early: Worker | null = null;

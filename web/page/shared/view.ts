@@ -60,19 +60,14 @@ export function setUsable(usable: boolean) {
   for (const name of ["line", "results", "kept", "cube"]) part(name).inert = !usable;
 }
 
-/** Scrolls to what follows a step: on a narrow page to the results, after the last step to the line. */
-function scrollToNext(isFinished: boolean, stays: boolean) {
-  if (!areBeside()) return part(isFinished ? "line" : "results").scrollIntoView({ block: "start" });
-  if (!stays) scrollTo({ top: 0, behavior: "instant" });
-  // no further than that, so that the nets stay in view
-  if (isFinished) part("copy-fmc").scrollIntoView({ block: "nearest" });
-}
-
 /** Has what follows a step come into view and have the focus: the line, which is said to end so, if no step follows. */
 export function showStart(isFinished: boolean, table: { focus: () => void }, stays: boolean) {
   // first, since the page is laid out for it, and the focus changes the marks
-  scrollToNext(isFinished, stays);
+  if (!areBeside()) part(isFinished ? "line" : "results").scrollIntoView({ block: "start" });
+  else if (!stays) scrollTo({ top: 0, behavior: "instant" });
   if (!isFinished) return table.focus();
+  // no further than that, so that the nets stay in view
+  if (areBeside()) part("copy-fmc").scrollIntoView({ block: "nearest" });
   part("line-heading").focus({ preventScroll: true });
   announce(part("finished").textContent);
 }

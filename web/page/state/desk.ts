@@ -147,14 +147,8 @@ export class Desk {
   }
 }
 
-/** The state of what was done with a scramble by an address of it that was opened, and by its sheet.
- * @param isBack whether the address is one that the history had for the sheet: then what is kept stays */
-export function stateOfBoth(sheet: Sheet, address: State, isBack: boolean): State {
-  const own = stateOfSheet(sheet);
-  return isBack ? { ...address, kept: own.kept } : joinedStates(own, address);
-}
-
-const ADDRESS = /^#scramble=\S+$/gm;
+/** A line with an address, which a letter may have quoted. */
+const ADDRESS = /^[> \t\u00A0]*(#scramble=\S+)[ \t]*$/gm;
 
 /** All scrambles of a desk as a text, which another page takes when it is pasted. */
 export const textOfDesk = (sheets: readonly Sheet[]) => [
@@ -165,7 +159,7 @@ export const textOfDesk = (sheets: readonly Sheet[]) => [
 export const withoutAddresses = (text: string) => text.replace(ADDRESS, "");
 
 /** The scrambles of such a text; none of any other one. */
-export const sheetsIn = (text: string): NewSheet[] => [...text.matchAll(ADDRESS)].flatMap(([address]) => {
+export const sheetsIn = (text: string): NewSheet[] => [...text.matchAll(ADDRESS)].flatMap(([, address]) => {
   const { state, fault } = readAddress(address);
   return fault === "" && state.scramble.trim() !== "" ? [{ state, written: null }] : [];
 });

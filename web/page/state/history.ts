@@ -14,10 +14,8 @@ export function placeIn(state: unknown): Place | null {
   return typeof key === "string" && typeof scroll === "number" ? { key, scroll } : null;
 }
 
-export function placeNow(): Place {
-  const key = document.activeElement?.dataset.key ?? document.activeElement?.dataset.cell ?? "";
-  return { key, scroll: scrollY };
-}
+export const placeNow = (): Place =>
+  ({ key: document.activeElement?.dataset.key ?? document.activeElement?.dataset.cell ?? "", scroll: scrollY });
 
 /** The sheet that the entry of the history is of, 0 if that is of none, or null if it is new. */
 export function sheetOfEntry(): number | null {
@@ -34,7 +32,7 @@ function keepInEntry(more: Partial<Place & { sheet: number }>) {
   }
 }
 
-export const keepPlace = () => keepInEntry(placeNow());
+export const keepPlace = (place = placeNow()) => keepInEntry(place);
 export const keepSheet = (sheet: number) => keepInEntry({ sheet });
 
 const AGAIN_AFTER = 1000;
@@ -72,9 +70,7 @@ export class WayBack {
     this.#place = place;
   }
 
-  isOn() {
-    return this.#place !== null;
-  }
+  isOn = () => this.#place !== null;
 
   /** Goes back, once what had the focus there is shown. */
   go(find: (key: string) => HTMLElement | null) {
@@ -147,7 +143,5 @@ export class Seen {
     return (isUndone && this.#rows.get(nameOfSeen(scramble, parts, ""))) || null;
   }
 
-  has(scramble: string, parts: Part[], next = "") {
-    return this.#names.has(nameOfSeen(scramble, parts, next));
-  }
+  has = (scramble: string, parts: Part[], next = "") => this.#names.has(nameOfSeen(scramble, parts, next));
 }

@@ -20,9 +20,7 @@ export class NextFocus {
     for (const use of ["pointerdown", "wheel"]) addEventListener(use, end, { capture: true, once: true });
   }
 
-  waitsFor(to: Where): boolean {
-    return this.#next?.to === to;
-  }
+  waitsFor = (to: Where) => this.#next?.to === to;
 
   take(to: Where): boolean {
     if (this.#next?.to !== to) return false;
