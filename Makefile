@@ -73,7 +73,7 @@ page: build/nissy.html
 
 arm: build/aarch64/nissy $(if $(LIBRARY_INSTALLED),build/aarch64/libnissy.a)
 
-build/nissy: $(SOURCES) tools/program tools/kit.py
+build/nissy: $(SOURCES) tools/program tools/targets.py tools/kit.py
 	$(NEEDS_KIT)
 	@echo "Proving and building. The first time this takes ten minutes or more."
 	tools/program build/nissy
@@ -86,9 +86,9 @@ build/libnissy.a: $(SOURCES) tools/static-library tools/targets.py tools/kit.py
 # the same for Linux on ARM, each proved for that target
 OF_ARM := $(SOURCES) tools/targets.py tools/kit.py $(wildcard packaging/aarch64/*.c)
 
-build/aarch64/nissy: $(OF_ARM) tools/cross-program
+build/aarch64/nissy: $(OF_ARM) tools/program
 	$(NEEDS_KIT)
-	tools/cross-program nissy build/aarch64/nissy aarch64
+	tools/program build/aarch64/nissy aarch64
 
 build/aarch64/libnissy.a: $(OF_ARM) tools/static-library
 	$(NEEDS_KIT)

@@ -57,10 +57,27 @@ static line_call *call_named(const char *name) {
     exit(1);
 }
 
-/* One round of a call on each line without its line feed. */
-static void call_each(line_call *call) {
-    for (size_t at = 0; at < lines; at++) {
-        nissy_line_answer got = call(input + begins[at], begins[at + 1] - begins[at] - 1, out, NISSY_LINE_ROOM);
+/* The nanoseconds of the quickest of so many rounds on the first lines. */
+static double quickest(void (*round)(size_t), size_t count, int rounds) {
+    double best = 0;
+    for (int at = 0; at < rounds; at++) {
+        double begun = now();
+        round(count);
+        double took = now() - begun;
+        if (at == 0 || took < best) best = took;
+    }
+    return best;
+}
+
+/* The same of each of all lines. */
+static double least(void (*round)(size_t)) { return quickest(round, lines, ROUNDS) / (double)lines; }
+
+static line_call *on_a_line;
+
+/* A call on each of the first lines without its line feed. */
+static void call_each(size_t count) {
+    for (size_t at = 0; at < count; at++) {
+        nissy_line_answer got = on_a_line(input + begins[at], begins[at + 1] - begins[at] - 1, out, NISSY_LINE_ROOM);
         end_unless(got.status == NISSY_DONE);
     }
 }
@@ -70,27 +87,12 @@ static void run_on(const uint8_t *from, size_t size) {
     end_unless(got.status == NISSY_DONE);
 }
 
-static void run_each(line_call *none) {
-    (void)none;
-    for (size_t at = 0; at < lines; at++) run_on(input + begins[at], begins[at + 1] - begins[at]);
+/* The first lines by a run each, and by one run. */
+static void run_each(size_t count) {
+    for (size_t at = 0; at < count; at++) run_on(input + begins[at], begins[at + 1] - begins[at]);
 }
 
-static void run_all(line_call *none) {
-    (void)none;
-    run_on(input, begins[lines]);
-}
-
-/* The nanoseconds a line of the quickest round. */
-static double least(void (*round)(line_call *), line_call *call) {
-    double best = 0;
-    for (int at = 0; at < ROUNDS; at++) {
-        double begun = now();
-        round(call);
-        double took = now() - begun;
-        if (at == 0 || took < best) best = took;
-    }
-    return best / (double)lines;
-}
+static void run_first(size_t count) { run_on(input, begins[count]); }
 
 static nissy_tables tables;
 static const char *step;
@@ -116,25 +118,6 @@ static void count_each(size_t count) {
         nissy_search_answer got = nissy_count(&tables, input + begins[at], begins[at + 1] - begins[at] - 1, LIMIT, 0, NISSY_ALL, NISSY_ALL);
         end_unless(got.status == NISSY_DONE);
     }
-}
-
-/* The first lines by a run each, and by one run. */
-static void run_first_each(size_t count) {
-    for (size_t at = 0; at < count; at++) run_on(input + begins[at], begins[at + 1] - begins[at]);
-}
-
-static void run_first(size_t count) { run_on(input, begins[count]); }
-
-/* The nanoseconds of the quickest of so many rounds on the first lines. */
-static double quickest(void (*round)(size_t), size_t count, int rounds) {
-    double best = 0;
-    for (int at = 0; at < rounds; at++) {
-        double begun = now();
-        round(count);
-        double took = now() - begun;
-        if (at == 0 || took < best) best = took;
-    }
-    return best;
 }
 
 static nissy_search_answer counts[MOST_LINES];
@@ -169,7 +152,7 @@ static void time_tables(const char *name) {
     int is_count = strcmp(name, "count") == 0;
     words_length = (size_t)snprintf((char *)words, sizeof words, "%s%c%s%c%d", name, 0, step, 0, LIMIT);
     double built = quickest(build, 0, ROUNDS), each = quickest(is_count ? count_each : solve_each, lines, TABLE_ROUNDS);
-    double alone = quickest(run_first_each, few, ROUNDS), together = quickest(run_first, thousand, ROUNDS);
+    double alone = quickest(run_each, few, ROUNDS), together = quickest(run_first, thousand, ROUNDS);
     double none = quickest(run_first, 0, TABLE_ROUNDS), all = quickest(run_first, lines, TABLE_ROUNDS);
     printf("%.0f %.0f %.0f %.0f %.0f\n", built, each / (double)lines, alone / (double)few, together / (double)thousand, (all - none) / (double)lines);
 }
@@ -177,7 +160,8 @@ static void time_tables(const char *name) {
 int main(int count, char **arguments) {
     if (count == 4 && strcmp(arguments[1], "line") == 0) {
         read_lines(arguments[3]);
-        printf("%.0f\n", least(call_each, call_named(arguments[2])));
+        on_a_line = call_named(arguments[2]);
+        printf("%.0f\n", least(call_each));
         return 0;
     }
     if (count == 5 && strcmp(arguments[1], "tables") == 0) {
@@ -200,6 +184,6 @@ int main(int count, char **arguments) {
         memcpy(words + words_length, arguments[at], length);
         words_length += length;
     }
-    printf("%.0f %.0f\n", least(run_each, NULL), least(run_all, NULL));
+    printf("%.0f %.0f\n", least(run_each), least(run_first));
     return 0;
 }

@@ -28,6 +28,10 @@ class Tally:
         """Two values that must be the same."""
         self.holds(f"{what}: {short(got)} for {short(wanted)}", got == wanted)
 
+    def says(self, kind: Type[BaseException], text: str, call: Callable[[], object]) -> None:
+        """A call raises exactly this kind of exception, with this text."""
+        self.equal(f"what {kind.__name__} says", str(raised(kind, call)), text)
+
     def soon(self, what: str, seconds: float, call: Callable[[], Found]) -> Found:
         """What a call returns that takes less than so many seconds of a processor. Others' work may make it many times slower for a while: then it is
         called again, twice at most."""

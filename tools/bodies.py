@@ -3,11 +3,12 @@
 import os
 import re
 from dataclasses import dataclass, field
+from functools import cached_property
 
+from functions import Span, function_at, named_by_head, sources
 from kit import TOP
 
 FOLDER = f"{TOP}/tests/wrong-bodies"
-HEAD = re.compile(r'( *)(?:pub(?:\([a-z]+\))? )?(?:const )?(?:unsafe )?(?:extern "C" )?fn (\w+)')
 # how a body begins, and a line of it that is no description
 NAMED = re.compile(r"(gate|further): (\w+)")
 OF_A_BODY = re.compile(r"(gate|further|refused|compiler|file):|[-+]")
@@ -49,52 +50,36 @@ class Change:
         return len(os.path.commonprefix([text, self.made_in(text)]))
 
 
-@dataclass(frozen=True)
-class Span:
-    """The lines of a function: those of its head and contract, and from `body` those of its body."""
-
-    first: int
-    body: int
-    last: int
-
-
-def function_at(lines: list[str], at: int) -> Span | None:
-    """Returns the innermost function that has the line, by the indentation that the formatter gives."""
-    for first in range(at, -1, -1):
-        head = HEAD.match(lines[first])
-        if not head:
-            continue
-        indent = head[1]
-        last = next(
-            (k for k in range(first, len(lines)) if lines[k].startswith((f"{indent}}}", f"{indent}{{}}"))), first
-        )
-        if lines[first].endswith(("}", ";")):
-            last = first
-        if last < at:
-            return None
-        opens = re.compile(rf"{indent}(\{{|\S.*\{{|\S.*\}})$")
-        body = next(k for k in range(first, last + 1) if opens.match(lines[k]))
-        return Span(first, body, last)
-    return None
-
-
 @dataclass
 class WrongBody:
-    """A wrong body, with one line on what it does wrong, the function that must be refused, by which error if it doesn't compile, and the
-    changes that make it in the crate of a folder."""
+    """A wrong body, with one line on what it does wrong, the function that must be refused if that isn't the first one that it turns, by which error
+    if it doesn't compile, and the changes that make it in the crate of a folder."""
 
     crate: str
     name: str
     is_of_gate: bool
     folder: str
     says: str = ""
-    refused: str = ""
+    named: str = ""
     error: str = ""
     changes: list[Change] = field(default_factory=list)
 
     @property
     def files(self) -> set[str]:
         return {it.file for it in self.changes}
+
+    @cached_property
+    def refused(self) -> str:
+        """Returns the function that must be refused."""
+        function = self.named or self.first_turned()
+        if not function:
+            raise BadBody("it turns no function, so a line 'refused: FUNCTION' is to name the one that must be refused")
+        return function
+
+    def first_turned(self) -> str:
+        """Returns the name of the first function that it turns, or an empty one."""
+        heads = named_by_head(self.crate, self.folder)
+        return next((heads.get((file, span.first), "") for file, span, _ in self.turned() if span), "")
 
     def made_in(self, texts: dict[str, str]) -> dict[str, str]:
         """Returns the texts of files with this body made, each change after the one before."""
@@ -141,9 +126,9 @@ def read(path: str) -> list[WrongBody]:
 
 
 def read_body(crate: str, file: str, lines: list[str]) -> WrongBody:
-    """Reads a wrong body from the lines: 'gate: NAME' or 'further: NAME', what it does wrong, 'refused: FUNCTION', and the lines of the file,
-    after '- ', with those in their place, after '+ '. A line 'compiler: ERROR' says that it doesn't compile, a line 'file: PATH' names another
-    file of the crate for what is below it."""
+    """Reads a wrong body from the lines: 'gate: NAME' or 'further: NAME', what it does wrong, and the lines of the file, after '- ', with those in
+    their place, after '+ '. Before these a line 'refused: FUNCTION' may name the function, a line 'compiler: ERROR' say that it doesn't compile;
+    a line 'file: PATH' names another file of the crate for what is below it."""
     kind, _, name = lines[0].partition(": ")
     body, parted = WrongBody(crate, name, kind == "gate", f"{TOP}/crates/{crate}"), True
     if len(lines) > 1 and lines[1].strip() and not OF_A_BODY.match(lines[1]):
@@ -152,13 +137,13 @@ def read_body(crate: str, file: str, lines: list[str]) -> WrongBody:
         raise BadBody(f"{name}: no line says what it does wrong")
     for line in lines[2:]:
         sign, text = line[:1], line[1:].strip()
-        if line.startswith("refused: ") and not body.refused:
-            body.refused = line.removeprefix("refused: ")
-        elif line.startswith("compiler: ") and body.refused and not body.error:
+        if line.startswith("refused: ") and not (body.named or body.error or body.changes):
+            body.named = line.removeprefix("refused: ")
+        elif line.startswith("compiler: ") and not (body.error or body.changes):
             body.error = line.removeprefix("compiler: ")
-        elif line.startswith("file: ") and body.refused:
+        elif line.startswith("file: "):
             file, parted = line.removeprefix("file: "), True
-        elif sign == "-" and body.refused:
+        elif sign == "-":
             # old lines after new ones, or after an empty line, are another change
             if parted or body.changes[-1].new:
                 body.changes.append(Change(file))
@@ -172,17 +157,11 @@ def read_body(crate: str, file: str, lines: list[str]) -> WrongBody:
             parted = True
         else:
             raise BadBody(f"{name}: this line doesn't belong where it stands: {line}")
-    if not body.refused or not body.changes or any(it.old == it.new for it in body.changes):
-        raise BadBody(f"{name}: it needs a line 'refused: FUNCTION', and then lines after '- ' with others after '+ '")
+    if not body.changes or any(it.old == it.new for it in body.changes):
+        raise BadBody(f"{name}: it needs lines after '- ' with others after '+ '")
     return body
 
 
 def files_of(crate: str) -> list[str]:
     """Returns the files with wrong bodies of a crate."""
     return sorted(f"{at}/{name}" for at, _, names in os.walk(f"{FOLDER}/{crate}") for name in names)
-
-
-def sources(folder: str, files: set[str]) -> dict[str, str]:
-    """Returns the texts of files of a crate in a folder, those that are there."""
-    paths = {file: f"{folder}/{file}" for file in sorted(files)}
-    return {file: open(path, encoding="utf-8").read() for file, path in paths.items() if os.path.isfile(path)}

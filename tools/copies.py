@@ -5,7 +5,8 @@ import shutil
 import subprocess
 
 import kit
-from bodies import WrongBody, sources
+from bodies import WrongBody
+from functions import sources
 from hollow import hollow
 from twins import with_twins
 

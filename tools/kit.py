@@ -150,13 +150,8 @@ def build_archive(crate: str, archive: str, target: str) -> None:
     build_for(crate, archive, target, "--crate-type", "staticlib")
 
 
-def build_program(crate: str, made: str, target: str) -> None:
-    """Proves a crate that is a program, and compiles it for a target as an object."""
-    build_for(crate, made, target)
-
-
 def build_for(crate: str, made: str, target: str, *kind: str) -> None:
-    """Proves a crate for a target, and compiles it."""
+    """Proves a crate for a target, and compiles it as an object, or as what else it is to be."""
     # RT_JOBS has `rt ci` make as many proofs at once, each by one job
     jobs = "1" if "RT_JOBS" in os.environ else "2"
     words = [

@@ -2,7 +2,8 @@
 
 import re
 
-from bodies import WrongBody, function_at, sources
+from bodies import WrongBody
+from functions import function_at, sources
 
 # of a proof that names what isn't there any more, and of one that rests on it (a goal may be shown with a remark on what `is not in scope here`)
 NAME_IS_GONE = re.compile(

@@ -13,23 +13,7 @@ STACK = -1
 # the greatest number that is written with decimal digits
 MOST_DECIMAL = 4095
 
-CALCULATIONS = (
-    "add",
-    "sub",
-    "mul",
-    "div_s",
-    "div_u",
-    "rem_s",
-    "rem_u",
-    "and",
-    "or",
-    "xor",
-    "shl",
-    "shr_s",
-    "shr_u",
-    "rotl",
-    "rotr",
-)
+CALCULATIONS = tuple("add sub mul div_s div_u rem_s rem_u and or xor shl shr_s shr_u rotl rotr".split())
 COMPARISONS = ("eq", "ne", "lt_s", "lt_u", "gt_s", "gt_u", "le_s", "le_u", "ge_s", "ge_u")
 COUNTS = ("clz", "ctz", "popcnt")
 SHIFTS = ("shl", "shr_s", "shr_u")

@@ -104,33 +104,7 @@ __version__ = version()
 del version
 
 # what others see of these, as in a traceback or in what was pickled, is named by the package
-for _public in (
-    Answer,
-    Attempt,
-    AttemptCandidate,
-    AttemptCheck,
-    AttemptDoubt,
-    Case,
-    Check,
-    Continuation,
-    Continuations,
-    Count,
-    Cut,
-    Facts,
-    Fault,
-    FormInText,
-    FormPlace,
-    Lengths,
-    LineFault,
-    Orientation,
-    Pieces,
-    PlainLine,
-    Reduction,
-    Solution,
-    Solutions,
-    StartFault,
-    TextPlace,
-    Token,
-):
-    _public.__module__ = __name__
-del _public
+for _name in __all__:
+    if isinstance(globals()[_name], type):
+        globals()[_name].__module__ = __name__
+del _name

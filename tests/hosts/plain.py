@@ -27,100 +27,20 @@ PARTS = """R U2 F' L\u2019 B\u2032 ( ) ` ' \u02bc EO DR Final finale R\u00e9duct
     "(12 moves)",
     "[1 MOVE]",
 ]
-BLANKS = [
-    " ",
-    " ",
-    " ",
-    ": ",
-    ":",
-    "\n",
-    "\n",
-    "\r\n",
-    "\r",
-    "\t",
-    "\u00a0",
-    "\u2009",
-    "\u2028",
-    "\u3000",
-    "\u0085",
-    "",
-    "",
-    "\n\n",
-    " : ",
-]
+BLANKS = [" "] * 3 + [": ", ":"] + ["\n"] * 2 + ["\r\n", "\r", "\t", "\u00a0", "\u2009", "\u2028", "\u3000", "\u0085"]
+BLANKS += [""] * 2 + ["\n\n", " : "]
 ALL_NAMES = {"labels", "numbers of moves", "comments", "line numbers", "commas", "signs that aren't seen"}
 # what lines of attempts begin with, and go on with
-HEADS = [
-    "",
-    "",
-    "",
-    "",
-    " ",
-    "1. ",
-    "2) ",
-    "(3)",
-    "#4 ",
-    "5 ",
-    "6.07 ",
-    "E1 ",
-    "E2 ",
-    "Extra 1: ",
-    "Scramble 2:",
-    "scramble: ",
-    "Attempt 3 of 3",
-    "Attempt 4/5 - ",
-    "attempt",
-    "EO: ",
-    "Solution: ",
-    "\u00c9tape finale\u00a0: ",
-    "my solution :",
-    "R\u00e9solution: ",
-    "Inverse: ",
-    "NISS: ",
-    "R2: ",
-    "// ",
-    "\u2028",
-    "a\u00b2b ",
-    "1. Scramble: ",
-    "Solution (3): ",
-    "EO 2: ",
-    "Final solution: ",
-    "\u6253\u4e71\uff1a",
-    "R' U' F D R' U' F",
-]
-RESTS = [
-    "",
-    "",
-    "",
-    " ",
-    "\r",
-    "R U",
-    "(F2 D\u2019)",
-    "L, B // hello",
-    "// a note",
-    "Hi all",
-    "thanks a lot",
-    "R (U F) \U0001f600",
-    "q",
-    "\u200bD\r",
-    "3 of 3",
-    "F\rEO: D",
-    "\rInverse: R\r(U)",
-    "R\u2028Switch: (U // F)",
-    "a/b // c",
-    " //\u3000d\ufeff",
-    "\x1c",
-    "2 3. U",
-    "R' U' F D R' U' F",
-    "L (2)",
-    "Time: 45:12",
-    "D // hard",
-    "F // EO",
-    "I liked it.",
-    "D // \u03b9EO",
-    "L // a\u2028DR",
-    "[3/5] U2 // (3)",
-]
+HEADS = (
+    "|||| |1. |2) |(3)|#4 |5 |6.07 |E1 |E2 |Extra 1: |Scramble 2:|scramble: |Attempt 3 of 3|Attempt 4/5 - |attempt|"
+    "EO: |Solution: |\u00c9tape finale\u00a0: |my solution :|R\u00e9solution: |Inverse: |NISS: |R2: |// |\u2028|"
+    "a\u00b2b |1. Scramble: |Solution (3): |EO 2: |Final solution: |\u6253\u4e71\uff1a|R' U' F D R' U' F"
+).split("|")
+RESTS = (
+    "||| |\r|R U|(F2 D\u2019)|L, B // hello|// a note|Hi all|thanks a lot|R (U F) \U0001f600|q|\u200bD\r|3 of 3|"
+    "F\rEO: D|\rInverse: R\r(U)|R\u2028Switch: (U // F)|a/b // c| //\u3000d\ufeff|\x1c|2 3. U|R' U' F D R' U' F|"
+    "L (2)|Time: 45:12|D // hard|F // EO|I liked it.|D // \u03b9EO|L // a\u2028DR|[3/5] U2 // (3)"
+).split("|")
 # long texts, with the numbers of their attempts, and of all steps and candidates of these
 LONG = {
     "\r" * 1_000_000: "1 0 0",

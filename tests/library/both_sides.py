@@ -10,7 +10,7 @@ import itertools
 import sys
 import threading
 from pathlib import Path
-from typing import Any, Callable, Iterator, List, Sequence, Tuple, Type
+from typing import Any, Callable, Iterator, List, Sequence, Tuple
 
 TOP = Path(__file__).resolve().parents[2]
 sys.path[:0] = [str(TOP / "python"), str(TOP / "tests")]
@@ -21,11 +21,6 @@ from tally import Tally, raised, tried
 # the package as one calls it who looks at no types
 untyped: Any = nissy
 MOST = 2**64 - 1
-
-
-def says(tally: Tally, kind: Type[Exception], text: str, call: Callable[[], object]) -> None:
-    """A call raises what says this text."""
-    tally.equal(f"what says {text!r}", str(raised(kind, call)), text)
 
 
 def best(tally: Tally) -> None:
@@ -74,7 +69,7 @@ def best(tally: Tally) -> None:
         ("progress", 1, TypeError),
     ):
         tally.holds(f"{name} {value}", raised(kind, lambda: untyped.best("R", **{name: value})))
-    says(tally, TypeError, "the stop is a function or None, not bool", lambda: untyped.best("R", stop=True))
+    tally.says(TypeError, "the stop is a function or None, not bool", lambda: untyped.best("R", stop=True))
 
 
 def many_rows(tally: Tally) -> None:
@@ -187,10 +182,10 @@ def sides(tally: Tally) -> None:
         "it is cut",
         cut and cut.count.nodes <= 3 and nissy.solve("eofb", "R U F L", nodes=3, partial=True, sides="both").cut,
     )
-    says(tally, nissy.LineFault, "column 3: not a move", lambda: nissy.solve("eofb", "R q", sides="both"))
-    says(tally, nissy.StartFault, "eorl does not hold", lambda: nissy.solve("drfb-eorl", "R", sides="both"))
-    says(
-        tally, ValueError, "the sides are one of normal, inverse, both", lambda: untyped.solve("eofb", "R", sides="all")
+    tally.says(nissy.LineFault, "column 3: not a move", lambda: nissy.solve("eofb", "R q", sides="both"))
+    tally.says(nissy.StartFault, "eorl does not hold", lambda: nissy.solve("drfb-eorl", "R", sides="both"))
+    tally.says(
+        ValueError, "the sides are one of normal, inverse, both", lambda: untyped.solve("eofb", "R", sides="all")
     )
 
 
@@ -254,7 +249,7 @@ def stopped_all(tally: Tally) -> None:
     tally.equal("the first one is found", next(answers), whole)
     enough.set()
     tally.equal("and no other", [type(it) for it in answers], [nissy.LineFault, nissy.Cut])
-    says(tally, TypeError, "the stop is a function or None, not int", lambda: untyped.best_all([], stop=1))
+    tally.says(TypeError, "the stop is a function or None, not int", lambda: untyped.best_all([], stop=1))
 
 
 if __name__ == "__main__":

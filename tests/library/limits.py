@@ -15,7 +15,7 @@ sys.path[:0] = [str(TOP / "python"), str(TOP / "tests")]
 
 import nissy
 from tally import Tally, raised, tried
-from values import MOST, ON_A_LINE, ON_MANY, ON_TWO, STEPS, says, untyped
+from values import MOST, ON_A_LINE, ON_MANY, ON_TWO, STEPS, untyped
 
 
 def wrong_types(tally: Tally) -> None:
@@ -31,16 +31,16 @@ def wrong_types(tally: Tally) -> None:
     ]
     for value, named in kinds:
         for call in ON_A_LINE.values():
-            says(tally, TypeError, f"the line is a str or bytes, not {named}", lambda: call(value))
+            tally.says(TypeError, f"the line is a str or bytes, not {named}", lambda: call(value))
         for many, _ in ON_MANY:
-            says(tally, TypeError, f"line 2: the line is a str or bytes, not {named}", lambda: list(many(["R", value])))
-        says(tally, TypeError, f"the input is a str or bytes, not {named}", lambda: untyped.run(["invert"], value))
-        says(tally, TypeError, f"a word is a str or bytes, not {named}", lambda: untyped.run(["invert", value]))
+            tally.says(TypeError, f"line 2: the line is a str or bytes, not {named}", lambda: list(many(["R", value])))
+        tally.says(TypeError, f"the input is a str or bytes, not {named}", lambda: untyped.run(["invert"], value))
+        tally.says(TypeError, f"a word is a str or bytes, not {named}", lambda: untyped.run(["invert", value]))
         tally.holds(
             "nor of two",
             all(raised(TypeError, lambda: pair(*given)) for pair in ON_TWO for given in ((value, "R"), ("R", value))),
         )
-    says(tally, TypeError, "the line so far is a str or bytes, not int", lambda: untyped.best("R", 3))
+    tally.says(TypeError, "the line so far is a str or bytes, not int", lambda: untyped.best("R", 3))
     for value, named in (
         ("R", "str"),
         (b"R", "bytes"),
@@ -50,8 +50,8 @@ def wrong_types(tally: Tally) -> None:
         (None, "None"),
     ):
         for many, _ in ON_MANY:
-            says(tally, TypeError, f"the lines are a list or another iterable, not {named}", lambda: many(value))
-        says(tally, TypeError, f"the words are a list or another iterable, not {named}", lambda: untyped.run(value))
+            tally.says(TypeError, f"the lines are a list or another iterable, not {named}", lambda: many(value))
+        tally.says(TypeError, f"the words are a list or another iterable, not {named}", lambda: untyped.run(value))
     by_step: List[Callable[[Any], object]] = [
         lambda it: untyped.solve(it, "R"),
         lambda it: untyped.count_all(it, []),
@@ -59,9 +59,9 @@ def wrong_types(tally: Tally) -> None:
     ]
     for call in by_step:
         for value, named in ((3, "int"), (b"eofb", "bytes"), (None, "None"), (["eofb"], "list")):
-            says(tally, TypeError, f"the step is a str, not {named}", lambda: call(value))
+            tally.says(TypeError, f"the step is a str, not {named}", lambda: call(value))
         for step in ("", "EOFB", "eofb\0", "eofb ", "htr", "\ud800", "x" * 10**6):
-            says(tally, ValueError, "no step has this name; the steps are " + ", ".join(STEPS), lambda: call(step))
+            tally.says(ValueError, "no step has this name; the steps are " + ", ".join(STEPS), lambda: call(step))
 
 
 def numbers(tally: Tally) -> None:
@@ -92,19 +92,19 @@ def numbers(tally: Tally) -> None:
             not any(raised(ValueError, lambda: call(it)) for it in (most, 0, True)),
         )
         for number in (-1, most + 1, most + 257, 2**64, 2**64 + 1, 2**70, 10**5000, -(10**5000)):
-            says(tally, ValueError, f"{what} is a number from 0 to {most:,}", lambda: call(number))
+            tally.says(ValueError, f"{what} is a number from 0 to {most:,}", lambda: call(number))
         for it, named in (("3", "str"), (3.0, "float"), (b"3", "bytes"), ([3], "list")):
-            says(tally, TypeError, f"{what} is an int, not {named}", lambda: call(it))
-    says(tally, TypeError, "the limit is an int, not None", lambda: untyped.solve("eofb", "", None))
+            tally.says(TypeError, f"{what} is an int, not {named}", lambda: call(it))
+    tally.says(TypeError, "the limit is an int, not None", lambda: untyped.solve("eofb", "", None))
     by_threads: List[Callable[[Any], Any]] = [
         lambda it: untyped.count_all("eofb", [], threads=it),
         lambda it: untyped.facts_all([], it),
     ]
     for call in by_threads:
         tally.equal("threads", list(untyped.facts_all([], 1024)), [])
-        says(tally, ValueError, "threads is a number from 1 to 1,024", lambda: call(0))
-        says(tally, ValueError, "threads is a number from 1 to 1,024", lambda: call(1025))
-        says(tally, TypeError, "threads is an int, not float", lambda: call(2.0))
+        tally.says(ValueError, "threads is a number from 1 to 1,024", lambda: call(0))
+        tally.says(ValueError, "threads is a number from 1 to 1,024", lambda: call(1025))
+        tally.says(TypeError, "threads is an int, not float", lambda: call(2.0))
 
 
 def bounds(tally: Tally) -> None:

@@ -68,67 +68,14 @@ def names(tally: Tally) -> None:
     brought: typing.Dict[str, object] = {}
     exec("from nissy import *", brought)
     del brought["__builtins__"]
-    wanted = {
-        "invert",
-        "unniss",
-        "cleanup",
-        "facelets",
-        "run",
-        "Answer",
-        "LineFault",
-        "solve",
-        "solve_all",
-        "count",
-        "count_all",
-        "scramble",
-        "scrambles",
-        "steps",
-        "Solution",
-        "Count",
-        "StartFault",
-        "Fault",
-        "Cut",
-        "Solutions",
-        "raising",
-        "facts",
-        "facts_all",
-        "check",
-        "Facts",
-        "Check",
-        "Case",
-        "Pieces",
-        "tokens",
-        "Token",
-        "solutions",
-        "best",
-        "best_all",
-        "Continuation",
-        "Continuations",
-        "Orientation",
-        "Reduction",
-        "Lengths",
-        "form_places",
-        "FormPlace",
-        "start_of",
-        "plain_line",
-        "PlainLine",
-        "AXES",
-        "EDGE_PLACES",
-        "CORNER_PLACES",
-        "NET",
-        "stickers_of",
-        "read_attempts",
-        "Attempt",
-        "AttemptCandidate",
-        "place_of",
-        "TextPlace",
-        "line_after",
-        "check_attempts",
-        "AttemptCheck",
-        "AttemptDoubt",
-        "FormInText",
-        "check_all",
-    }
+    wanted = set(
+        """invert unniss cleanup facelets run Answer LineFault solve solve_all count count_all scramble scrambles steps
+        Solution Count StartFault Fault Cut Solutions raising facts facts_all check Facts Check Case Pieces tokens
+        Token solutions best best_all Continuation Continuations Orientation Reduction Lengths form_places FormPlace
+        start_of plain_line PlainLine AXES EDGE_PLACES CORNER_PLACES NET stickers_of read_attempts Attempt
+        AttemptCandidate place_of TextPlace line_after check_attempts AttemptCheck AttemptDoubt FormInText
+        check_all""".split()
+    )
     tally.equal("what an import of all brings", set(brought), wanted)
     public = [getattr(nissy, name) for name in nissy.__all__ if callable(getattr(nissy, name))]
     tally.holds("each function and each class says what it does", len(public) > 10 and all(it.__doc__ for it in public))

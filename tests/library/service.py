@@ -98,37 +98,11 @@ def requests_are_answered(tally: Tally) -> None:
 
 def any_address_is_answered(tally: Tally) -> None:
     """Addresses that are none, and drawn ones, each of which has an answer of some kilobytes at most."""
-    draw, pieces = random.Random(72), [
-        "http://",
-        "[",
-        "]",
-        "//",
-        "/check",
-        "/search",
-        "?",
-        "&",
-        "=",
-        "scramble",
-        "solution",
-        "step",
-        "line",
-        "eofb",
-        "slack",
-        "%",
-        "%5B",
-        "%ff",
-        "#",
-        ":",
-        "@",
-        "R",
-        "(",
-        ")",
-        "\u00e9",
-        "\u2100",
-        "9" * 5000,
-        ";",
-        "\t",
-    ]
+    draw = random.Random(72)
+    pieces = (
+        f"http://|[|]|//|/check|/search|?|&|=|scramble|solution|step|line|eofb|slack|%|%5B|%ff|#|:|@|R|(|)|\u00e9|\u2100|"
+        f"{'9' * 5000}|;|\t"
+    ).split("|")
     drawn = ["".join(draw.choices(pieces, k=draw.randrange(1, 12))) for _ in range(5000)]
     for address in ("http://[", "//[", "http://\u2100/", "/check?scramble=R&solution=%5B", "*", "", *drawn):
         status, told = serve.answer(address)

@@ -11,7 +11,7 @@ import ctypes
 import itertools
 import sys
 from pathlib import Path
-from typing import Any, Callable, Dict, Iterable, List, Tuple, Type
+from typing import Any, Callable, Dict, Iterable, List, Tuple
 
 TOP = Path(__file__).resolve().parents[2]
 sys.path[:0] = [str(TOP / "python"), str(TOP / "tests")]
@@ -47,12 +47,6 @@ MOST_INPUT = 16_777_216
 BEYOND = b" " * (MOST_INPUT + 1)
 TOO_LONG = "a line has at most 16,777,216 bytes"
 MOST = 2**64 - 1
-
-
-def says(tally: Tally, kind: Type[BaseException], text: str, call: Callable[[], object]) -> None:
-    """The call raises this kind with this text."""
-    error = raised(kind, call)
-    tally.equal(f"what {kind.__name__} says", str(error), text)
 
 
 def told(fault: Any) -> Any:
@@ -164,7 +158,7 @@ def without_lines(tally: Tally) -> None:
     tally.equal("the most scrambles", len(nissy.scrambles(7, 9, 1, 10_000)), 10_000)
     run = untyped._library.nissy_run
     untyped._library.nissy_run = lambda *given: untyped._library.RunAnswer(untyped._library.STOPPED)
-    says(tally, MemoryError, "no memory for the scrambles", lambda: nissy.scrambles(1, 2, 3, 2))
+    tally.says(MemoryError, "no memory for the scrambles", lambda: nissy.scrambles(1, 2, 3, 2))
     untyped._library.nissy_run = run
     header = (TOP / "include/nissy.h").read_text("utf-8")
     tally.holds("the version is that of the header", f'#define NISSY_VERSION "{nissy.__version__}"' in header)
@@ -213,7 +207,7 @@ def faults(tally: Tally) -> None:
             next(answers)
             tally.equal("the same raised", told(raised(nissy.LineFault, lambda: next(answers))), (*place, text, 2))
             tally.holds("it ends there", raised(StopIteration, lambda: next(answers)))
-    says(tally, nissy.LineFault, "column 3: not a move", lambda: nissy.solve("eo", "R Q", 3, 1))
+    tally.says(nissy.LineFault, "column 3: not a move", lambda: nissy.solve("eo", "R Q", 3, 1))
     told_twice: Callable[[], List[Any]] = lambda: list(untyped.count_all("eofb", ["R", "R q", "F B"], nodes=0))
     tally.holds(
         "faults of equal parts are equal, and cuts",
@@ -238,27 +232,21 @@ def faults(tally: Tally) -> None:
             "LineFault('scramble, column 3: not a move')",
         ],
     )
-    says(
-        tally,
-        nissy.LineFault,
-        "line 2, column 3: not a move",
-        lambda: list(nissy.raising(nissy.count_all("eo", ["", "R Q"]))),
+    tally.says(
+        nissy.LineFault, "line 2, column 3: not a move", lambda: list(nissy.raising(nissy.count_all("eo", ["", "R Q"])))
     )
     for pair, other in zip(ON_TWO, ("solution", "moves so far", "moves so far")):
-        says(tally, nissy.LineFault, "scramble, column 3: not a move", lambda: pair("R Q", "U"))
-        says(tally, nissy.LineFault, f"{other}, column 1: bracket not closed", lambda: pair("R", "(U"))
-        says(tally, nissy.Fault, f"{other}, {TOO_LONG}", lambda: pair("", BEYOND))
+        tally.says(nissy.LineFault, "scramble, column 3: not a move", lambda: pair("R Q", "U"))
+        tally.says(nissy.LineFault, f"{other}, column 1: bracket not closed", lambda: pair("R", "(U"))
+        tally.says(nissy.Fault, f"{other}, {TOO_LONG}", lambda: pair("", BEYOND))
         parts = [raised(nissy.LineFault, lambda: pair(*lines)).part for lines in (("R Q", "U"), ("R", "(U"))]
         tally.equal("the names of the lines", parts, ["scramble", other])
     for pair in ON_TWO[1:]:
-        says(
-            tally,
-            nissy.Fault,
-            "moves so far, more than 256 moves",
-            lambda: pair("R U " * 128, "(" + "F R " * 128 + ")"),
+        tally.says(
+            nissy.Fault, "moves so far, more than 256 moves", lambda: pair("R U " * 128, "(" + "F R " * 128 + ")")
         )
     for call in (untyped.invert, ON_A_LINE["solve"], untyped.facts):
-        says(tally, nissy.Fault, TOO_LONG, lambda: call(BEYOND))
+        tally.says(nissy.Fault, TOO_LONG, lambda: call(BEYOND))
     for many, one in ON_MANY:
         before, fault, _ = many(["F", BEYOND, "R"])
         tally.equal(
@@ -284,10 +272,9 @@ def starts(tally: Tally) -> None:
             f"{step} may start anywhere",
             start or all(untyped.count(step, line).solutions for line in ("F", "R", "U", "F R U B L D")),
         )
-    says(tally, nissy.StartFault, "eorl does not hold", lambda: nissy.solve("drfb-eorl", "R"))
+    tally.says(nissy.StartFault, "eorl does not hold", lambda: nissy.solve("drfb-eorl", "R"))
     for call in (untyped.solve_all, untyped.count_all):
-        says(
-            tally,
+        tally.says(
             nissy.StartFault,
             "line 3: eorl does not hold",
             lambda: list(nissy.raising(call("drfb-eorl", ["", "F", "R"]))),

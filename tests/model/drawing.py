@@ -9,92 +9,18 @@ from notation import read, to_faces, word_of, words_of
 LETTERS = "U D R L F B Uw Dw Rw Lw Fw Bw u d r l f b M E S x y z".split()
 FACES = "U D R L F B".split()
 SUFFIXES = ["", "", "2", "'", "2'", "\u2019", "2\u2019"]
-DAMAGES = [bytes([byte]) for byte in b"UwxM2'()Q \t\r\n3,.;-#/[]{}\0\x7f\x80\x99\xe2\xff\xc3"] + [
-    b"\xe2\x80",
-    b"\xe2\x99",
-    b"\xe2\x80\x98",
-    b"\xe2\x80\x99",
-    b"''",
-    b"2'",
-    b"'2",
-    b"22",
-    b"3",
-    b"w",
-    b"w'",
-    b"((",
-    b"))",
-    b"()",
-    b"#R",
-    b"//R",
-    b"[R,U]",
-]
+DAMAGES = [bytes([byte]) for byte in b"UwxM2'()Q \t\r\n3,.;-#/[]{}\0\x7f\x80\x99\xe2\xff\xc3"] + (
+    b"\xe2\x80|\xe2\x99|\xe2\x80\x98|\xe2\x80\x99|''|2'|'2|22|3|w|w'|((|))|()|#R|//R|[R,U]"
+).split(b"|")
 # In and out of range, with leading zeros, and what other programs take for a number.
-NUMBERS = [
-    "0",
-    "1",
-    "2",
-    "3",
-    "20",
-    "21",
-    "00",
-    "020",
-    "0021",
-    "+1",
-    "-1",
-    " 1",
-    "1 ",
-    "",
-    "1.0",
-    "0x1",
-    "1e1",
-    "a",
-    "\u0661",
-    "256",
-    "257",
-    "10000",
-    "10001",
-    "18446744073709551615",
-    "18446744073709551616",
-    "0" * 40 + "5",
-    "9" * 60,
-    "1_0",
-    "\u00b2",
-    "4294967296",
-    "99999999999999999999",
-]
-VOCABULARY = [
-    "invert",
-    "unniss",
-    "cleanup",
-    "print",
-    "solve",
-    "count",
-    "near",
-    "scramble",
-    "steps",
-    "Invert",
-    "help",
-    "-h",
-    "--help",
-    "--version",
-    "",
-    "solv",
-    "solve ",
-    " solve",
-    "twophase",
-    "eofb",
-    "dr-eofb",
-    "drud-eofb",
-    "drud-eoud",
-    "eo",
-    "EO",
-    "dr",
-    "htr",
-    "R",
-    "F",
-    "(",
-    "",
-] + NUMBERS
+NUMBERS = (
+    f"0|1|2|3|20|21|00|020|0021|+1|-1| 1|1 ||1.0|0x1|1e1|a|\u0661|256|257|10000|10001|18446744073709551615|"
+    f"18446744073709551616|{'0' * 40}5|{'9' * 60}|1_0|\u00b2|4294967296|99999999999999999999"
+).split("|")
+VOCABULARY = (
+    "invert|unniss|cleanup|print|solve|count|near|scramble|steps|Invert|help|-h|--help|--version||solv|solve | solve|"
+    "twophase|eofb|dr-eofb|drud-eofb|drud-eoud|eo|EO|dr|htr|R|F|(|"
+).split("|") + NUMBERS
 
 
 def is_outside(words: list[str], at: int) -> bool:

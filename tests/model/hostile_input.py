@@ -9,23 +9,9 @@ from trial import Trial
 
 ALPHABET = b"UDRLFBudrlfbMESxyzw2' \t\r\n()\xe2\x80\x99qQ3\0\xff"
 # What stands across the boundary of two blocks that are read.
-ACROSS = [
-    "R\u2019".encode(),
-    "R2\u2019".encode(),
-    b"Rw2'",
-    b"(U)",
-    b"R\nU\n",
-    b"q",
-    b"\xe2\x80U",
-    b"R\xe2\x80\nU",
-    b"\n\n\n",
-    b"R\r\nU",
-    b"))",
-    b"(\n)",
-    b"\0",
-    b"U'2",
-    b"R ' ",
-]
+ACROSS = (
+    b"R\xe2\x80\x99|R2\xe2\x80\x99|Rw2'|(U)|R\nU\n|q|\xe2\x80U|R\xe2\x80\nU|\n\n\n|R\r\nU|))|(\n)|\0|U'2|R ' "
+).split(b"|")
 
 
 def line(draw: Drawing, most: int) -> bytes:
