@@ -46,26 +46,32 @@ enum nissy_doubt {
                                   * of the text begin and end with R' U' F, or it stands again below; of a check that isn't solved: the scramble
                                   * is by itself, or another one stands beside a known scramble's solution */
     NISSY_SEVERAL_SOLUTIONS = 2, /* which of several groups is the solution can't be seen, or a list has those of several scrambles; or a step stands
-                                  * below one that follows it, by their numbers or names; of a check also if it is solved: a step whose
-                                  * moves have 40 bytes or more isn't of the solution and doesn't solve, but has its turns, once both are
-                                  * cleaned, but in one place, where each has two at most */
+                                  * below one that follows it, by their numbers, or by EO, DR, HTR and finish in their labels or comments: of
+                                  * several names the last one says which step it is, and the first one what may stand below it; of a check
+                                  * also if it is solved: a step whose moves have 40 bytes or more isn't of the solution and doesn't solve, but
+                                  * has its turns, once both are cleaned, but in one place, where each has two at most */
     NISSY_SIDE = 3,              /* another side than the normal one is named, such as the inverse, and the moves have no brackets */
     NISSY_LETTERS = 4,           /* letters stand together as moves don't elsewhere in the line, such as F2L or xD */
     NISSY_SMALL_LETTERS = 5,     /* a scramble has a turn in a small letter, or a step has no others */
-    NISSY_COMMENT = 6,           /* three moves stand one after another in a comment, or turns of the cube by themselves; or a letter may be of
-                                  * words, as in "R U layer" or "EO F" */
+    NISSY_COMMENT = 6,           /* three moves stand one after another in a comment, also in a line that has none before it, or turns of the cube
+                                  * by themselves; or a letter may be of words, as in "R U layer" or "EO F". Of a check: a single capital letter
+                                  * of a face, by itself, ends the moves of a step, or they begin with it, and with a turn there that takes it
+                                  * back, such as F' of F, all of at most twelve steps solve */
     NISSY_REPETITION = 7,        /* moves are said to be made several times, as in "(R U)x2", at the end of a step "R U x2", or in a comment */
     NISSY_INSERTION = 8,         /* a step has a mark at which others belong, such as "[1]" between moves or "*" after them, or tells what belongs
-                                  * there, as "* = R U"; or it is said that moves are inserted, or in a line without moves an algorithm has its
-                                  * name, such as "T perm"; or it is said that others are meant, which counts in each note after the scramble.
+                                  * there, as "* = R U", or "(1) R U" below a step that has "(1)" between moves; or it is said that moves are
+                                  * inserted, or in a line without moves an algorithm has its name, such as "T perm"; or it is said that others
+                                  * are meant. That, and what is inserted, but no skeleton, counts beside the solution too.
                                   * Insertions and repetitions that are denied, as in "no insertion", and in a line without moves sides, as in
                                   * "nothing on the inverse", are none. Of a check: a comment has the letter of a face, capital or small, and with
                                   * a turn of that face beside the step all steps solve; no letter, digit, ":", ";", "<" or "=" is beside it, but
                                   * that 2 or 3 may follow. Or else, where the moves of a step begin, all solve once the whole cube is turned
-                                  * before that step. This is told only of at most twelve steps, each on a line of its own, of at most
-                                  * NISSY_MOST_STEPS bytes in all */
+                                  * before that step, or else once that step stands elsewhere, before another one or after the last one. This is
+                                  * told only of at most twelve steps, each on a line of its own, of at most NISSY_MOST_STEPS bytes in all */
     /* 9, 10 and 13 are told of checks */
-    NISSY_STEP_OR_SCRAMBLE = 11, /* a line after the scramble may be of it, or of another one. Of a check this counts also if it is solved */
+    NISSY_STEP_OR_SCRAMBLE = 11, /* a line after the scramble may be of it, or of another one; or a step after which nothing is said may be the
+                                  * scramble: it is called so, or the scramble is called the solution. Of a check this counts also if it is
+                                  * solved */
     NISSY_SIGNS = 12             /* moves may be written by signs that aren't read so: by commas between some of them, by letters that look like
                                   * theirs, such as wide ones, or in a link; or so many have no apostrophe that these may have been lost, or one of
                                   * so many is a slice, whose letter F or B was taken for; or R' U' F stands at one end of a scramble, or a tab
@@ -223,11 +229,12 @@ typedef struct nissy_attempt_check {
     uint64_t doubt_at;        /* where the doubt is seen; NISSY_NO_PLACE if there is none */
     uint8_t doubt;            /* of what is solved NISSY_STEP_OR_SCRAMBLE, or else NISSY_ANOTHER_ATTEMPT, or else NISSY_SEVERAL_SOLUTIONS by its
                                * steps, as told above; if it is none of these, that of its first line that has one, whatever it is; else of what isn't
-                               * solved NISSY_ANOTHER_SCRAMBLE if its scramble is, by itself, or else NISSY_A_PART, or else NISSY_INSERTION or
-                               * NISSY_SIGNS if it would be with a turn that the text shows beside a step, or else NISSY_INSERTION if it would be with
-                               * the cube turned before one, or else NISSY_ANOTHER_ATTEMPT if one stands in it, or none. With known scrambles also
-                               * NISSY_WHICH_SCRAMBLE of what has none; of what isn't solved, before these, NISSY_ANOTHER_SCRAMBLE, as told below; and
-                               * after these NISSY_WHICH_SCRAMBLE, if its solution doesn't solve its own one, but another of the first 64 */
+                               * solved NISSY_ANOTHER_SCRAMBLE if its scramble is, by itself, or else NISSY_A_PART, or else NISSY_INSERTION,
+                               * NISSY_COMMENT or NISSY_SIGNS if it would be with a turn that the text shows beside a step, or else NISSY_INSERTION if
+                               * it would be with the cube turned before one, or else if it would be with one elsewhere, or else
+                               * NISSY_ANOTHER_ATTEMPT if one stands in it, or none. With known scrambles also NISSY_WHICH_SCRAMBLE of what has none;
+                               * of what isn't solved, before these, NISSY_ANOTHER_SCRAMBLE, as told below; and after these NISSY_WHICH_SCRAMBLE, if
+                               * its solution doesn't solve its own one, but another of the first 64 */
     uint8_t doubted;          /* the doubt counts: nothing is at fault, and there is no solution that solves, or it is NISSY_STEP_OR_SCRAMBLE or one
                                * that the check tells, NISSY_ANOTHER_ATTEMPT or NISSY_SEVERAL_SOLUTIONS. One of its lines that is
                                * NISSY_SEVERAL_SOLUTIONS doesn't count if it is solved */

@@ -11,7 +11,7 @@ static guarded moves_of(guarded text, const nissy_text_line *lines, uint64_t cou
 }
 
 /* Whether the doubt of an attempt is that of its lines, if it is solved first that one may be of a scramble; else, if it isn't solved, that its
- * scramble by itself is, or a part of its steps; else that another attempt may begin in a line. */
+ * scramble by itself is, or a part of its steps, or all of them read otherwise; else that another attempt may begin in a line. */
 static int is_doubt_of(const nissy_text_line *lines, uint64_t count, guarded scramble, const uint64_t *places, int is_unsolved,
                        const nissy_attempt_check *it) {
     uint64_t at = 0;
@@ -25,7 +25,7 @@ static int is_doubt_of(const nissy_text_line *lines, uint64_t count, guarded scr
     if (is_unsolved && scramble.size > 0 && nissy_check(scramble.bytes, scramble.size, scramble.bytes, 0).solved)
         return it->doubt == NISSY_ANOTHER_SCRAMBLE && it->doubt_at == places[0];
     if (it->doubt == NISSY_NO_DOUBT) return it->doubt_at == NISSY_NO_PLACE;
-    if (it->doubt == NISSY_A_PART) return is_unsolved;
+    if (it->doubt == NISSY_A_PART || it->doubt == NISSY_INSERTION || it->doubt == NISSY_COMMENT || it->doubt == NISSY_SIGNS) return is_unsolved;
     for (at = 0; at < count && lines[at].moves != it->doubt_at; at++) {
     }
     return it->doubt == NISSY_ANOTHER_ATTEMPT && at < count && lines[at].comment - lines[at].moves >= 20;

@@ -185,6 +185,8 @@ def doubts(tally: Tally) -> None:
         "R U F\n\nEO F F' U'": ("comment", 3, 4),
         "R U F // EO\n\nF' U' // DR": ("another scramble", 1, 1),
         "R U F // x\n\nF' U'": ("comment", 1, 7),
+        "R U F\n\nEO // F' U' R'": ("comment", 3, 4),
+        "R U F\n\nEO // F' U'\nDR // L' F2 U'": ("comment", 4, 4),
         "R U F // F' U' R'": ("comment", 1, 7),
         f"{LOST}\nR U": ("signs", 1, 1),
         f"{FIRST[:-3]} F\nR U": ("signs", 1, 1),
@@ -193,9 +195,25 @@ def doubts(tally: Tally) -> None:
         "R U F D B\n\nB' D' // EO\n| U' R' // finish": ("signs", 4, 1),
         "R U F D\n\nD' F' // EO, then U'\nR' // finish": ("insertion", 3, 19),
         "R U F D\n\nF' U' // (after D')\nR' // finish": ("insertion", 3, 17),
+        "R U2 F D'\n\nD // EO\nR' // DR\nF' U2 // finish": ("insertion", 4, 1),
+        "R U F\n\nF' // EO\nU' R' F // finish": ("comment", 4, 7),
+        "R U F\n\nF' // EO\nD U' R' // finish": ("comment", 4, 1),
         "R U F\n\nfinish: F' U\nEO: D": ("several solutions", 4, 5),
         "R U F\n\n2) F' U\n1) D": ("several solutions", 4, 4),
         "R U F\n\nSolution: F' U' D\n\nPS: a mistake": ("insertion", 5, 7),
+        # the solution stands above its scramble, with which all is solved
+        "Solution: F' U' R'\nScramble: R U F": ("step or scramble", 2, 11),
+        "Solution: F' U' R'\n\nThe scramble: R U F": ("step or scramble", 3, 15),
+        "Sol (3): F' U' R'\n\nR U F": ("step or scramble", 3, 1),
+        f"Solution: {OF_FIRST}\nScramble: {FIRST}": ("step or scramble", 2, 11),
+        "R U F\n\nU' R' // DR\nF' // EO": ("several solutions", 4, 1),
+        "R U F\n\nDR: U' R'\nEO: F'": ("several solutions", 4, 5),
+        "R U F\n\nF' // EO\nR' // HTR\nU' // DR": ("several solutions", 5, 1),
+        "R U F\n\nSolution: D' F2 U' R'\n\nInsertion: L'": ("insertion", 5, 1),
+        "R U F\n\nSolution: D' F2 U' R'\n\nL' // L3C": ("insertion", 5, 7),
+        "R U F\n\nD' F2 U' R'\ncommutator: L'": ("insertion", 4, 1),
+        "R U F\n\nD' (1) F2 U' R' // 3c\n(1) L'": ("insertion", 4, 1),
+        "R U F\n\nD' (1) F2 U' R' // 3c\n1: L'": ("insertion", 4, 4),
         f"Week 1\n{OTHER}\n{OTHER_STEPS}\nnice\n\nWeek 2\n{WHOLE}\n{FREE_STEPS}": ("step or scramble", 9, 1),
         "R U F D L B U2 R2\n\n\u2191 R2 U2\n\u2193 R U\n\u2191 B' L'\n\u2193 F D": ("a part", 4, 3),
     }
@@ -208,12 +226,22 @@ def doubts(tally: Tally) -> None:
         "R U F\n\nF', U', R",
         "R U F\n\nF' U' R // on normal",
         "1. R U F\n\nSolutions:\n1. F' U' R'",
+        # what names the scramble is of it, names that stand together are of one step, and numbers after moves count these
+        "R U F\n\nSolve of the scramble: F' U' R'",
+        "R U F\n\nF' // EO, good for HTR\nU' R // DR",
+        "R U F\n\nF' // EO\nU' // DR-1\nL // EO+DR",
+        "R U F\n\nF' U' (1)\n1: L",
+        "R U F\n\nSolution: F' U' R\n\nNo insertion",
         # a turn was lost, but nothing shows it: no sign, two signs, a turn in another comment, one of another face, a face
         "R U F D\n\nD' F' // EO\nR' // finish",
         "R U F D B L\n\nL' B' D' 8 // EO\nU' R' ? // finish",
         "R U F D\n\nD' // EO with U'\nF' // DR\nR' // finish",
         "R U F D\n\nD' F' // EO, then L2\nR' // finish",
         "R U F D'\n\nF' U' // EO :D\nR' // finish",
+        # two steps stand elsewhere; a half turn is too much, or a letter within the moves
+        "R U2 F D' L\n\nR' // EO\nF' U2 // DR\nL' D // finish",
+        "R U F\n\nF' U' // EO\nR' U2 // finish",
+        "R U F\n\nF' // EO\nU' D R' // finish",
     ):
         tally.equal(f"no doubt of {text!r}", [it.doubt for it in nissy.check_attempts(text)], [None])
 
@@ -240,7 +268,7 @@ def calls(tally: Tally) -> None:
         "1. R Q\n": 11,
         "1. R U F\n\nF\u2019 U\u2019 R\u2019\n\n": 30,
         "1. R U F\nR' U' // inverse\nF // EO\n\n": 30,
-        f"{FIRST}\n{OF_FIRST} R\n": 14,
+        f"{FIRST}\n{OF_FIRST} R2\n": 14,
     }
     for piece, bound in most.items():
         count = calls_of(piece * 100)
