@@ -56,21 +56,14 @@ holds "a second body of a function is made in a twin of it" has_twin
 holds "the copy has no fault of its own" is_sound
 body=niss_moves/turn_opposite_is_itself
 holds "a function that is gone is named" says "NOT MADE: $body: the crate has no function niss_moves::turn::Face::gone" \
-    own '2arefused: niss_moves::turn::Face::gone
-'
+    own 's/^\(refused: .*\)::opposite$/\1::gone/'
 holds "a function of another crate is named" says "NOT MADE: $body: the crate has no function niss_cube::cube::Cube::turn" \
-    own '2arefused: niss_cube::cube::Cube::turn
-'
-holds "a body that turns no function is to name one" says "NOT MADE: $body: it turns no function, so a line 'refused: FUNCTION' is to name" \
-    own 's/^- .*/- pub enum Face {/; s/^+ .*/+ enum Face {/'
-holds "one that names the function that it turns needs no such line" says "NOT MADE: $body: it turns the function that its line 'refused: FUNCTION'" \
-    own '2arefused: niss_moves::turn::Face::opposite
-'
+    own 's/^refused: .*/refused: niss_cube::cube::Cube::turn/'
 holds "old lines that are gone are shown" says "NOT MADE: $body: this stands 0 times in src/turn.rt, and not once: Face::U => Face::X," \
     own 's/^- .*/- Face::U => Face::X,/'
 holds "old lines that stand several times are shown" says "NOT MADE: $body: this stands 4 times in src/turn.rt, and not once: match self {" \
     own 's/^- .*/- match self {/'
-holds "a file that is gone is named" says "NOT MADE: $body: the crate has no src/gone.rt" own '2afile: src/gone.rt
+holds "a file that is gone is named" says "NOT MADE: $body: the crate has no src/gone.rt" own '/^refused/afile: src/gone.rt
 '
 holds "a name that another body has is told" says "NOT MADE: $body: another body of the crate has this name" \
     turned 's/: turn_undone_by_itself$/: turn_opposite_is_itself/'
@@ -80,15 +73,15 @@ file=tests/wrong-bodies/niss_moves/turn.txt
 own="NOT READ: $file: turn_opposite_is_itself"
 holds "a body that doesn't say what it does wrong is named" says "$own: no line says what it does wrong" own '2d'
 holds "an empty line says nothing" says "$own: no line says what it does wrong" own '2s/.*//'
-holds "a body with two functions is named" says "$own: this line doesn't belong where it stands: refused: y" own '2arefused: x\nrefused: y
+holds "a body without a function is named" says "$own: this line doesn't belong where it stands: - Face::U => Face::D," own '/^refused/d'
+holds "a body with two functions is named" says "$own: this line doesn't belong where it stands: refused: x" own '/^refused/arefused: x
 '
 holds "a body with two errors of the compiler is named" says "$own: this line doesn't belong where it stands: compiler: y" \
-    own '2acompiler: x\ncompiler: y
+    own '/^refused/acompiler: x\ncompiler: y
 '
-holds "a function that is named below a change is told" says "$own: this line doesn't belong where it stands: refused: x" own '/^+/arefused: x
-'
-holds "a body without changes is named" says "$own: it needs lines after '- ' with others after '+ '" own '/^[-+]/d'
-holds "a body that changes nothing is named" says "$own: it needs lines after '- ' with others after '+ '" own 's/^+ .*/+ Face::U => Face::D,/'
+holds "a body without changes is named" says "$own: it needs a line 'refused: FUNCTION', and then lines after '- '" own '/^[-+]/d'
+holds "a body that changes nothing is named" says "$own: it needs a line 'refused: FUNCTION', and then lines after '- '" \
+    own 's/^+ .*/+ Face::U => Face::D,/'
 holds "new lines without old ones are shown" says "$own: this line doesn't belong where it stands: + Face::U => Face::U," own '/^- /d'
 holds "a comment in new lines is shown" says "$own: a comment hides what follows it" own 's|^+ .*|& // as before|'
 holds "a line of no kind is shown" says "$own: this line doesn't belong where it stands: Face::U" own 's/^+ /+ Face::U =>\n/'

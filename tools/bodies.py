@@ -3,9 +3,8 @@
 import os
 import re
 from dataclasses import dataclass, field
-from functools import cached_property
 
-from functions import Span, function_at, named_by_head, sources
+from functions import Span, function_at, sources
 from kit import TOP
 
 FOLDER = f"{TOP}/tests/wrong-bodies"
@@ -52,34 +51,21 @@ class Change:
 
 @dataclass
 class WrongBody:
-    """A wrong body, with one line on what it does wrong, the function that must be refused if that isn't the first one that it turns, by which error
-    if it doesn't compile, and the changes that make it in the crate of a folder."""
+    """A wrong body, with one line on what it does wrong, the function that must be refused, by which error if it doesn't compile, and the
+    changes that make it in the crate of a folder."""
 
     crate: str
     name: str
     is_of_gate: bool
     folder: str
     says: str = ""
-    named: str = ""
+    refused: str = ""
     error: str = ""
     changes: list[Change] = field(default_factory=list)
 
     @property
     def files(self) -> set[str]:
         return {it.file for it in self.changes}
-
-    @cached_property
-    def refused(self) -> str:
-        """Returns the function that must be refused."""
-        function = self.named or self.first_turned()
-        if not function:
-            raise BadBody("it turns no function, so a line 'refused: FUNCTION' is to name the one that must be refused")
-        return function
-
-    def first_turned(self) -> str:
-        """Returns the name of the first function that it turns, or an empty one."""
-        heads = named_by_head(self.crate, self.folder)
-        return next((heads.get((file, span.first), "") for file, span, _ in self.turned() if span), "")
 
     def made_in(self, texts: dict[str, str]) -> dict[str, str]:
         """Returns the texts of files with this body made, each change after the one before."""
@@ -126,9 +112,9 @@ def read(path: str) -> list[WrongBody]:
 
 
 def read_body(crate: str, file: str, lines: list[str]) -> WrongBody:
-    """Reads a wrong body from the lines: 'gate: NAME' or 'further: NAME', what it does wrong, and the lines of the file, after '- ', with those in
-    their place, after '+ '. Before these a line 'refused: FUNCTION' may name the function, a line 'compiler: ERROR' say that it doesn't compile;
-    a line 'file: PATH' names another file of the crate for what is below it."""
+    """Reads a wrong body from the lines: 'gate: NAME' or 'further: NAME', what it does wrong, 'refused: FUNCTION', and the lines of the file,
+    after '- ', with those in their place, after '+ '. A line 'compiler: ERROR' says that it doesn't compile, a line 'file: PATH' names another
+    file of the crate for what is below it."""
     kind, _, name = lines[0].partition(": ")
     body, parted = WrongBody(crate, name, kind == "gate", f"{TOP}/crates/{crate}"), True
     if len(lines) > 1 and lines[1].strip() and not OF_A_BODY.match(lines[1]):
@@ -137,13 +123,13 @@ def read_body(crate: str, file: str, lines: list[str]) -> WrongBody:
         raise BadBody(f"{name}: no line says what it does wrong")
     for line in lines[2:]:
         sign, text = line[:1], line[1:].strip()
-        if line.startswith("refused: ") and not (body.named or body.error or body.changes):
-            body.named = line.removeprefix("refused: ")
-        elif line.startswith("compiler: ") and not (body.error or body.changes):
+        if line.startswith("refused: ") and not body.refused:
+            body.refused = line.removeprefix("refused: ")
+        elif line.startswith("compiler: ") and body.refused and not body.error:
             body.error = line.removeprefix("compiler: ")
-        elif line.startswith("file: "):
+        elif line.startswith("file: ") and body.refused:
             file, parted = line.removeprefix("file: "), True
-        elif sign == "-":
+        elif sign == "-" and body.refused:
             # old lines after new ones, or after an empty line, are another change
             if parted or body.changes[-1].new:
                 body.changes.append(Change(file))
@@ -157,8 +143,8 @@ def read_body(crate: str, file: str, lines: list[str]) -> WrongBody:
             parted = True
         else:
             raise BadBody(f"{name}: this line doesn't belong where it stands: {line}")
-    if not body.changes or any(it.old == it.new for it in body.changes):
-        raise BadBody(f"{name}: it needs lines after '- ' with others after '+ '")
+    if not body.refused or not body.changes or any(it.old == it.new for it in body.changes):
+        raise BadBody(f"{name}: it needs a line 'refused: FUNCTION', and then lines after '- ' with others after '+ '")
     return body
 
 

@@ -3,7 +3,6 @@
 import os
 import re
 from dataclasses import dataclass
-from functools import lru_cache
 
 HEAD = re.compile(r'( *)(?:pub(?:\([a-z]+\))? )?(?:const )?(?:unsafe )?(?:extern "C" )?fn (\w+)')
 
@@ -116,11 +115,9 @@ def functions_in(crate: str, folder: str) -> dict[str, list[Function]]:
     return {file: functions_of(crate, file, text.split("\n"), modules) for file, text in texts.items()}
 
 
-@lru_cache(None)
-def named_by_head(crate: str, folder: str) -> dict[tuple[str, int], str]:
-    """Returns the names by which a check knows the functions of a crate, each by its file and the line of its head, counted from 0. The folder is
-    read once."""
-    return {(file, it.span.first): it.name for file, found in functions_in(crate, folder).items() for it in found}
+def names_of(crate: str, folder: str) -> set[str]:
+    """Returns the names by which a check knows the functions of a crate."""
+    return {it.name for found in functions_in(crate, folder).values() for it in found}
 
 
 def sources(folder: str, files: set[str]) -> dict[str, str]:

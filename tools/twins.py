@@ -45,7 +45,7 @@ def in_copy(folder: str, body: WrongBody) -> WrongBody:
         replace(it, among=range(span.first, span.last + 1) if span else range(ends[it.file]))
         for it, span in placed(body)
     ]
-    return replace(body, folder=folder, named=body.refused, changes=changes)
+    return replace(body, folder=folder, changes=changes)
 
 
 def of_twin(folder: str, body: WrongBody, number: int) -> WrongBody | None:
@@ -70,7 +70,7 @@ def of_twin(folder: str, body: WrongBody, number: int) -> WrongBody | None:
         replace(it, among=among) if of else copied
         for (it, of), copied in zip(placed(body), in_copy(folder, body).changes)
     ]
-    return replace(body, folder=folder, named="::".join([*path, twin]), changes=changes)
+    return replace(body, folder=folder, refused="::".join([*path, twin]), changes=changes)
 
 
 def start_of(lines: list[str], span: Span) -> int:
