@@ -5,6 +5,7 @@ use Rattle.niss_cube.proofs.CubieKinds.{cubes_permute_places}
 use Rattle.niss_cube.proofs.Codes.{kept_is_tested, sets_are_places}
 use Rattle.niss_cube.proofs.BadPieces.{bad_pieces_are_counted, bad_edges_are_even, no_corner_alone, goals_by_bad_pieces}
 use Rattle.niss_cube.proofs.BadPlaces.{bad_places_are_counted, bad_places_see_places}
+use Rattle.niss_cube.proofs.InverseRanks.{cubes_are_taken_back}
 use Rattle.niss_cube.proofs.Leaving.{inverse_is_as_bad, bad_pieces_see_places}
 use Rattle.niss_cube.proofs.Shown.{home_is_tested, home_sees_places}
 use Rattle.niss_cube.proofs.StepLemmas.{reached_steps_see_places}
@@ -18,4 +19,4 @@ pub use Rattle.niss_cube.proofs.Codes.{zero_test}
 -- how many turns a step has, and that its name is its own
 pub use Rattle.niss_cube.proofs.StepLemmas.{turns_of-length, turns_of-oriented, names_differ}
 
-pub ruleset laws = (cubes_permute_places, are_coordinates, kept_is_tested, sets_are_places, start_is_kept, start_is_kept_before, inverse_has_steps, other_turns_leave_start, steps_see_places, idle_turns_leave_steps, inverses_of_steps, step_turns_in_order, step_turns_are_counted, domino_keeps_start, names_differ, inverse_is_as_bad, bad_pieces_are_counted, bad_edges_are_even, no_corner_alone, bad_pieces_see_places, goals_by_bad_pieces, bad_places_are_counted, bad_places_see_places, home_is_tested, home_sees_places, reached_steps_see_places)
+pub ruleset laws = (cubes_permute_places, cubes_are_taken_back, are_coordinates, kept_is_tested, sets_are_places, start_is_kept, start_is_kept_before, inverse_has_steps, other_turns_leave_start, steps_see_places, idle_turns_leave_steps, inverses_of_steps, step_turns_in_order, step_turns_are_counted, domino_keeps_start, names_differ, inverse_is_as_bad, bad_pieces_are_counted, bad_edges_are_even, no_corner_alone, bad_pieces_see_places, goals_by_bad_pieces, bad_places_are_counted, bad_places_see_places, home_is_tested, home_sees_places, reached_steps_see_places)

@@ -21,13 +21,13 @@ inverse_lists c = record {
   flips = tabulated 12 (λ h. (2 - turn_at Edges c (place_of Edges c h)) % 2);
 }
 
-record Inverted (k : Kind) (c : CubieLists) : Type 0 where
+pub record Inverted (k : Kind) (c : CubieLists) : Type 0 where
   pub homes_len : length (homes k (inverse_lists c)) ≡ count k
   pub turns_len : length (turns k (inverse_lists c)) ≡ count k
   pub home_is : (h : ℕ) → h < count k → home_at k (inverse_lists c) h ≡ place_of k c h
   pub turn_is : (h : ℕ) → h < count k → turn_at k (inverse_lists c) h ≡ turned_back k (turn_at k c (place_of k c h))
 
-inverted-is : (k : Kind) (c : CubieLists) → Inverted k c
+pub inverted-is : (k : Kind) (c : CubieLists) → Inverted k c
 inverted-is Corners c = record {
   homes_len = tabulated-length 8 _;
   turns_len = tabulated-length 8 _;

@@ -7,6 +7,7 @@ pub mod CubieKinds
 pub mod Digits
 pub mod IdleTurns
 pub mod InverseCubies
+pub mod InverseRanks
 pub mod Leaving
 pub mod MovedCubies
 pub mod Ranks

@@ -57,7 +57,7 @@ inward_at Edges (Before t) h = get_or (turn_table t.face t.power).flips h 0
 inward_at Corners (Under v) h = get_or (renaming_table v).corners.inward h 0
 inward_at Edges (Under v) h = get_or (renaming_table v).edges.inward h 0
 
-abbrev outward_at : Kind → Motion → ℕ → ℕ
+abbrev pub outward_at : Kind → Motion → ℕ → ℕ
 outward_at Corners (By t) i = get_or (turn_table t.face t.power).twists i 0
 outward_at Edges (By t) i = get_or (turn_table t.face t.power).flips i 0
 outward_at k (Before t) i = 0

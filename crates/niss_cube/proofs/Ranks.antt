@@ -149,7 +149,7 @@ slice_occupied-at edges l k lk =
 abbrev filled : List Bool → ℕ
 filled os = sum_by one_if os
 
-slice_occupied-filled : (c : CubieLists) → Valid c → filled (slice_occupied c.edges) ≡ 4
+pub slice_occupied-filled : (c : CubieLists) → Valid c → filled (slice_occupied c.edges) ≡ 4
 slice_occupied-filled c v =
     sum_by-below one_if false (slice_occupied c.edges)
     ∙ ap (λ n. below n (λ k. one_if (get_or (slice_occupied c.edges) k false))) (slice_occupied-length c.edges v.edges_placed.places)

@@ -8,4 +8,5 @@ pub mod AfterTurn
 pub mod Steps
 pub mod BadPieces
 pub mod BadPlaces
+pub mod Inverses
 pub mod StepLaws

@@ -8,6 +8,7 @@ ghost use Rattle.niss_cube.specs.BadPieces.{BadPiecesAreCounted, GoalsByBadPiece
 ghost use Rattle.niss_cube.specs.BadPlaces.{BadPlacesAreCounted, BadPlacesSeePlaces};
 ghost use Rattle.niss_cube.specs.StepLaws.{StartIsKept, StartIsKeptBefore, InverseHasSteps, OtherTurnsLeaveStart, StepsSeePlaces, InversesOfSteps};
 ghost use Rattle.niss_cube.specs.StepLaws.{ReachedStepsSeePlaces, IdleTurnsLeaveSteps};
+ghost use Rattle.niss_cube.specs.Inverses.{CubesAreTakenBack};
 ghost use Rattle.niss_cube.specs.Map.{HomeIsTested, HomeSeesPlaces};
 ghost use Rattle.niss_cube.specs.StepLaws.{StepTurnsInOrder, StepTurnsAreCounted, DominoKeepsStart, NamesDiffer};
 
@@ -55,6 +56,11 @@ pub fn start_is_kept_before()
 /// A cube and its inverse have the same start and the same goal, for each step.
 pub fn inverse_has_steps()
     ensures { InverseHasSteps }
+{}
+
+/// Each cube has an inverse.
+pub fn cubes_are_taken_back()
+    ensures { CubesAreTakenBack }
 {}
 
 /// On the inverse of a cube as many edges are flipped, corners twisted and slice edges outside as on the cube.

@@ -16,7 +16,8 @@ use Rattle.niss_search.proofs.ByLength.{from_least-all}
 use Rattle.niss_search.proofs.DepthFirst.{below-all}
 use Rattle.niss_search.proofs.DescentParts.{WentThrough-append, EndedIn-after, EndedIn-before}
 use Rattle.niss_search.proofs.InverseLemmas.{apart}
-use Rattle.niss_search.specs.BothSides.{Pair, reaches, ends_idle, pairs_of_lengths, splits, HandedOut, StoppedEarly}
+use Rattle.niss_search.proofs.Words.{Result, Ok, Err}
+use Rattle.niss_search.specs.BothSides.{Pair, reaches, ends_idle, pairs_of_lengths, splits, HandedOut, HandsOut, StoppedEarly}
 unfoldable use Rattle.niss_search.specs.BothSides.{pairs_with, looks_with, least_pair_length, pair_solutions, pair_looks}
 use Rattle.niss_search.specs.BothSides.{looks_of_lengths, first_pairs, leaves_out, skips}
 use Rattle.niss_search.proofs.IdleHeads.{idle_head, left_head}
@@ -26,8 +27,8 @@ unfoldable use Rattle.niss_search.specs.BothWalk.{after_heads}
 use Rattle.niss_search.specs.declared.searching.both.Ends.{Ends}
 use Rattle.niss_search.specs.declared.searching.both.Ends.TheVariants.{Any, NotCounter}
 use Rattle.niss_search.specs.declared.searching.both.Sides.{Sides}
-use Rattle.niss_search.specs.declared.searching.both.walk.Side.{Side}
-use Rattle.niss_search.specs.declared.searching.both.walk.Side.TheVariants.{Normal, Inverse}
+use Rattle.niss_search.specs.declared.searching.both.splitting.Side.{Side}
+use Rattle.niss_search.specs.declared.searching.both.splitting.Side.TheVariants.{Normal, Inverse}
 
 -- One part after another.
 module _ {K : Type 0} (took refused : K → Pair → K → Type 0) where
@@ -82,6 +83,19 @@ module _ {K : Type 0} (took refused : K → Pair → K → Type 0) where
           → StoppedEarly took refused (parts part (xs ++ x ∷ ys)).pairs (parts part (xs ++ x ∷ ys)).looks m o s u cut bound
       parts_stop ys {cut} {bound} h =
           same_stopped (parts part (xs ++ x ∷ ys)) _ (parts-split ys) (then_stopped (parts part xs) (part x) went (parts part ys) h)
+
+-- what is done after a first look, with that
+pub look_first : {K T E : Type 0} (took refused : K → Pair → K → Type 0) (pairs : List Pair) (looks meter looked meter_now : ℕ) (sink sink_now : K) (is_cut : E → Bool) (bound : ℕ) (count : T → ℕ) (r : Result T E)
+    → 0 < looks → looked ≡ meter + 1 → HandsOut took refused pairs (looks - 1) looked meter_now sink sink_now is_cut bound count r
+    → HandsOut took refused pairs looks meter meter_now sink sink_now is_cut bound count r
+look_first took refused pairs looks meter looked meter_now sink sink_now is_cut bound count (Ok value) some tick h =
+    record { taken = h.taken; counted = h.counted; looked = omega (arith, h.looked, some, tick) }
+look_first took refused pairs looks meter looked meter_now sink sink_now is_cut bound count (Err stop) some tick h = record {
+  taken = h.taken;
+  over = λ cut. omega (arith, h.over cut, some, tick);
+  rises = omega (arith, h.rises, tick);
+  looked = omega (arith, h.looked, some, tick);
+}
 
 -- a list to an element, and from there on
 pub list_split : {X : Type 0} (xs : List X) (i : ℕ) (d : X) → i < length xs → xs ≡ take i xs ++ get_or xs i d ∷ drop (i + 1) xs

@@ -10,6 +10,7 @@ use Rattle.niss_search.proofs.ListLemmas.{flat_map-none, filter-flat_map, sum_by
 use Rattle.niss_search.proofs.ListLemmas.{sum_by-shift, sum_by-none, sum_by-one, in-range}
 use Rattle.std.proofs.lemmas.List.Folds.{flat_map-map, map_fixed}
 use Rattle.std.proofs.lemmas.List.Concat.{flat_map_single}
+use Rattle.niss_search.proofs.DescentParts.{beyond_at-far}
 use Rattle.niss_search.proofs.LookLemmas.{distance_at-goal, distance_at-turn}
 
 module _ (turns : List Turn) where
@@ -173,3 +174,18 @@ module _ {turns : List Turn} {S : Type 0} (space : Space turns S) (look : S → 
 pub below_at-start : (step : Step) (x : List GoalCoordinates) (d : ℕ) → below_at step x [] d ≡ deepening (positions step) (distance_at step) x d
 unfolding beyond_at
 below_at-start step x = deepening_is (positions step) (distance_at step) x (distance_at-goal step) (distance_at-turn step)
+
+module _ (step : Step) (x : List GoalCoordinates) (d : ℕ) where
+  -- what it finds once the start was looked at, and how often it looks
+  pub near_paths : (beyond_at step x [] d).paths ≡ reaching (positions step) x d
+  near_paths = ap (λ (q : Part). q.paths) (below_at-start step x d)
+
+  pub near_looks : 1 + (beyond_at step x [] d).looks ≡ looks (positions step) (distance_at step) x d
+  near_looks = ap (λ (q : Part). q.looks) (below_at-start step x d)
+
+  -- from a start that is too far nothing, by that look alone
+  pub far_paths : d < distance_at step x → reaching (positions step) x d ≡ []
+  far_paths h = sym near_paths ∙ ap (λ (q : Part). q.paths) (beyond_at-far step x [] d h)
+
+  pub far_looks : d < distance_at step x → looks (positions step) (distance_at step) x d ≡ 1
+  far_looks h = sym near_looks ∙ ap (λ (q : Part). 1 + q.looks) (beyond_at-far step x [] d h)

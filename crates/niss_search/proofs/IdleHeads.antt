@@ -14,8 +14,8 @@ use Rattle.niss_search.specs.BothSides.{Pair, pair, turned_before, inverse_side,
 unfoldable use Rattle.niss_search.specs.BothSides.{begins_reached}
 use Rattle.niss_search.specs.BothWalk.{join, is_kept}
 use Rattle.niss_search.specs.declared.searching.both.Ends.{Ends}
-use Rattle.niss_search.specs.declared.searching.both.walk.Side.{Side}
-use Rattle.niss_search.specs.declared.searching.both.walk.Side.TheVariants.{Normal, Inverse}
+use Rattle.niss_search.specs.declared.searching.both.splitting.Side.{Side}
+use Rattle.niss_search.specs.declared.searching.both.splitting.Side.TheVariants.{Normal, Inverse}
 
 -- a list is empty, or ends in something
 last_of : {X : Type 0} (s : List X) → (s ≡ []) ⊎ ((a : List X) × (x : X) × (s ≡ a ++ x ∷ []))

@@ -13,9 +13,14 @@ use Rattle.niss_cube.specs.BadPieces.{TakesBack}
 use Rattle.niss_cube.specs.Map.{map_of}
 use Rattle.niss_cube.specs.declared.cube.Cube.{Cube}
 use Rattle.niss_search.specs.BothSides.{turned_before, inverse_side}
-use Rattle.niss_search.specs.BothWalk.{IsOther, HasInverseAt, PositionsFollowInverses, on_side, on_other}
-use Rattle.niss_search.specs.declared.searching.both.walk.Side.{Side}
-use Rattle.niss_search.specs.declared.searching.both.walk.Side.TheVariants.{Normal, Inverse}
+use Rattle.niss_cube.specs.Inverses.{IsTakenBack, CubesAreTakenBack}
+use Rattle.niss_cube.specs.declared.step.Step.TheVariants.{Eofb}
+use Rattle.niss_search.proofs.Words.{subst, IsTrue}
+unfoldable use Rattle.niss_search.proofs.Words.{may_start}
+unfoldable use Rattle.niss_search.specs.Positions.{position_of}
+use Rattle.niss_search.specs.BothWalk.{IsHere, IsTailAt, TailsFollowHeads, PositionsFollowInverses, on_side, on_other}
+use Rattle.niss_search.specs.declared.searching.both.splitting.Side.{Side}
+use Rattle.niss_search.specs.declared.searching.both.splitting.Side.TheVariants.{Normal, Inverse}
 
 -- turns on the two sides don't see each other
 one_apart : (step : Step) (f : Place → Place) (t : Turn) (b : List Turn) → (λ q. turned t (after_all (inverse_side step) f b q)) ≡ after_all (inverse_side step) (λ q. turned t (f q)) b
@@ -29,26 +34,10 @@ apart step (t ∷ a) f b = ap (λ g. after_all (cubes step) g a) (one_apart step
 abbrev pub Stay : Type 0
 Stay = (t : Turn) (q : Place) → IsPlace q → IsPlace (turned t q)
 
-module _ (permute : CubesPermutePlaces) (stay : Stay) (step : Step) where
-  still_place : (p : List Turn) (e : Place → Place) (q : Place) → IsPlace (e q) → IsPlace (after_all (cubes step) e p q)
-  still_place [] e q h = h
-  still_place (t ∷ p) e q h = still_place p (λ r. turned t (e r)) q (stay t (e q) h)
-
-  -- the other side's cube after one turn more of the head
-  pub other_next : ((t : Turn) (q : Place) → turned (inverse_turn t) (turned t q) ≡ q) → (side : Side) (e c d : Cube) (p : List Turn) (t u : Turn)
-      → u ≡ inverse_turn t → IsOther step side (map_of e) p (map_of c) → SameMap (map_of d) (λ q. map_of c (turned u q))
-      → IsOther step side (map_of e) (p ++ t ∷ []) (map_of d)
-  other_next undo Normal e c d p t u is before after = λ q l.
-      let f = after_all (cubes step) (map_of e) p in
-      let place : IsPlace (f q) = still_place p (map_of e) q ((permute e).to_places q l) in
-      ap (map_of d) (λ i. fold-append (λ (g : Place → Place) v r. turned v (g r)) (map_of e) p (t ∷ []) i q)
-      ∙ after (turned t (f q)) (stay t (f q) place)
-      ∙ ap (λ v. map_of c (turned v (turned t (f q)))) is
-      ∙ ap (map_of c) (undo t (f q)) ∙ before q l
-  other_next undo Inverse e c d p t u is before after = λ q l.
-      after q l ∙ before (turned u q) (stay u q l)
-      ∙ ap (λ v. after_all (inverse_side step) (map_of e) p (turned v q)) is
-      ∙ (λ i. sym (fold-append turned_before (map_of e) p (t ∷ [])) i q)
+-- turns on the inverse bring places to places
+still_place : Stay → (step : Step) (p : List Turn) (e : Place → Place) → ((q : Place) → IsPlace q → IsPlace (e q)) → (q : Place) → IsPlace q → IsPlace (after_all (inverse_side step) e p q)
+still_place stay step [] e keep q l = keep q l
+still_place stay step (t ∷ p) e keep q l = still_place stay step p (turned_before e t) (λ r m. keep (turned (inverse_turn t) r) (stay (inverse_turn t) r m)) q l
 
 -- A cube and its inverse, by their maps.
 pub record InverseLaws : Type 0 where
@@ -83,27 +72,85 @@ still_cube : TurnedIsCube → (step : Step) (p : List Turn) (e : Place → Place
 still_cube is step [] e h = h
 still_cube is step (t ∷ p) e h = still_cube is step p (λ q. turned t (e q)) (is e t h)
 
--- What the tables find from the other side's position is what there is from the cube after the head, on the other side.
-module _ (cubes_law : PositionsFollowCubes) (inverses : PositionsFollowInverses) (turned_law : TurnedIsCube) (step : Step) where
-  abbrev here : Side → Cube → List Turn → Place → Place
-  here side e head = after_all (on_side side step) (map_of e) head
+-- What follows heads.
+module _ (law : InverseLaws) (inverses : PositionsFollowInverses) (taken_back : CubesAreTakenBack) (turned_law : TurnedIsCube) (step : Step) where
+  abbrev head_at : Side → Cube → List Turn → Place → Place
+  head_at side c head = after_all (on_side side step) (map_of c) head
 
-  abbrev At : Cube → List GoalCoordinates → Type 0
-  At other x = (f : Place → Place) → SameMap (map_of other) f → HasPosition step f x
+  places_at : (c : Cube) (head : List Turn) (q : Place) → IsPlace q → IsPlace (head_at Inverse c head q)
+  places_at c head = still_place law.stay step head (map_of c) (law.permute c).to_places
 
-  inverse_at : (e other : Cube) (head : List Turn) (x : List GoalCoordinates) → IsOther step Normal (map_of e) head (map_of other) → At other x → HasInverseAt step (here Normal e head) x
-  inverse_at e other head x back at =
-      record { inverse = map_of other; cube = still_cube turned_law step head (map_of e) (e, λ q l. refl); back = back; here = at (map_of other) (λ q l. refl) }
+  here-same : (side : Side) (c : Cube) (head : List Turn) (here now : Place → Place) → IsHere step side (map_of c) head here → SameMap now here → IsHere step side (map_of c) head now
+  here-same Normal c head here now is same = λ q l. same q l ∙ is q l
+  here-same Inverse c head here now is same = λ q l. same (head_at Inverse c head q) (places_at c head q l) ∙ is q l
 
-  pub tails-same : (side : Side) (e other : Cube) (head : List Turn) (x : List GoalCoordinates) → IsOther step side (map_of e) head (map_of other) → At other x → (k : ℕ)
-      → reaching (on_other side step) (here side e head) k ≡ reaching (positions step) x k
-  tails-same Normal e other head x is at k = reaching-same (inverses step) _ x (inverse_at e other head x is at) k
-  tails-same Inverse e other head x is at k = reaching-same (cubes_law.follow step) _ x (at _ is) k
+  here-next : (side : Side) (c : Cube) (head : List Turn) (here : Place → Place) (t : Turn) → IsHere step side (map_of c) head here
+      → IsHere step side (map_of c) (head ++ t ∷ []) (λ q. turned t (here q))
+  here-next Normal c head here t is = λ q l.
+      ap (turned t) (is q l) ∙ (λ i. sym (fold-append (λ (g : Place → Place) v r. turned v (g r)) (map_of c) head (t ∷ [])) i q)
+  here-next Inverse c head here t is = λ q l.
+      ap (λ r. turned t (here r)) (λ i. fold-append turned_before (map_of c) head (t ∷ []) i q)
+      ∙ ap (turned t) (is (turned (inverse_turn t) q) (law.stay (inverse_turn t) q l)) ∙ law.redo t q
 
-  pub tail_looks-same : (side : Side) (e other : Cube) (head : List Turn) (x : List GoalCoordinates) → IsOther step side (map_of e) head (map_of other) → At other x → (k : ℕ)
-      → looks (on_other side step) (distance (on_other side step)) (here side e head) k ≡ looks (positions step) (distance_at step) x k
+  back_starts : (here : Place → Place) (d : Cube) → IsCube here → IsTrue (may_start step here) → IsTakenBack here d → IsTrue (may_start step (map_of d))
+  back_starts here d is starts back =
+      let c = is.0 in
+      let takes : TakesBack c d = λ q l. ap (map_of d) (is.1 q l) ∙ back q l in
+      subst IsTrue (sym ((law.see (map_of c) here is.1).start step) ∙ (law.alike c d takes).start step) starts
+
+  tail-at : (side : Side) (c : Cube) (head : List Turn) (here : Place → Place) (d : Cube) → IsCube here → IsHere step side (map_of c) head here → IsTrue (may_start step here)
+      → IsTakenBack here d → IsTailAt step side (map_of c) head (position_of step (map_of d))
+  tail-at Normal c head here d cube is starts back = record {
+    inverse = map_of d;
+    cube = still_cube turned_law step head (map_of c) (c, λ q l. refl);
+    back = λ q l. ap (map_of d) (sym (is q l)) ∙ back q l;
+    here = record { cube = (d, λ q l. refl); starts = back_starts here d cube starts back; here = refl };
+  }
+  tail-at Inverse c head here d cube is starts back =
+      law.follow.alike step (map_of d) (head_at Inverse c head) (d, λ q l. refl)
+      (λ q l. ap (map_of d) (sym (is q l)) ∙ back (head_at Inverse c head q) (places_at c head q l))
+      (back_starts here d cube starts back)
+
+  some_back : (here : Place → Place) → IsCube here → (d : Cube) × IsTakenBack here d
+  some_back here is =
+      let b = taken_back is.0 in
+      (b.0, λ q l. ap (map_of b.0) (sym (is.1 q l)) ∙ b.1 q l)
+
+  tails-same : (side : Side) (c : Cube) (head : List Turn) (x : List GoalCoordinates) (k : ℕ) → IsTailAt step side (map_of c) head x
+      → reaching (on_other side step) (head_at side c head) k ≡ reaching (positions step) x k
+  tails-same Normal c head x k at = reaching-same (inverses step) _ x at k
+  tails-same Inverse c head x k at = reaching-same (law.follow.follow step) _ x at k
+
+  tail_looks-same : (side : Side) (c : Cube) (head : List Turn) (x : List GoalCoordinates) (k : ℕ) → IsTailAt step side (map_of c) head x
+      → looks (on_other side step) (distance (on_other side step)) (head_at side c head) k ≡ looks (positions step) (distance_at step) x k
   unfolding distance_at
-  tail_looks-same Normal e other head x is at k =
-      looks-same (inverses step) _ x (inverse_at e other head x is at) (distance (inverse_side step)) (distance_at step) (distance-same (inverses step)) k
-  tail_looks-same Inverse e other head x is at k =
-      looks-same (cubes_law.follow step) _ x (at _ is) (distance (cubes step)) (distance_at step) (distance-same (cubes_law.follow step)) k
+  tail_looks-same Normal c head x k at =
+      looks-same (inverses step) _ x at (distance (inverse_side step)) (distance_at step) (distance-same (inverses step)) k
+  tail_looks-same Inverse c head x k at =
+      looks-same (law.follow.follow step) _ x at (distance (cubes step)) (distance_at step) (distance-same (law.follow.follow step)) k
+
+pub tails_follow_heads : InverseLaws → PositionsFollowInverses → CubesAreTakenBack → TurnedIsCube → TailsFollowHeads
+tails_follow_heads law inverses taken turned_law = record {
+  same = here-same law inverses taken turned_law;
+  next = here-next law inverses taken turned_law;
+  tail = tail-at law inverses taken turned_law;
+  taken_back = λ here is. some_back law inverses taken turned_law Eofb here is;
+  turned_cube = λ c t. turned_law (map_of c) t (c, λ q l. refl);
+  found = tails-same law inverses taken turned_law;
+  looked = tail_looks-same law inverses taken turned_law;
+}
+
+-- The other side's position, from a cube whose head's last turn is still to be made, and from one as it stands.
+module _ (law : TailsFollowHeads) (step : Step) (side : Side) (c here : Cube) (head : List Turn) where
+  pub tail_after : (t : Turn) (of_step : Step) (x : List GoalCoordinates) → IsHere step side (map_of c) head (λ q. turned t (map_of here q)) → IsTrue (may_start step (λ q. turned t (map_of here q)))
+      → of_step ≡ step → ((d : Cube) → IsTakenBack (λ q. turned t (map_of here q)) d → x ≡ position_of of_step (map_of d)) → IsTailAt step side (map_of c) head x
+  tail_after t of_step x is starts same at =
+      let cube : IsCube (λ q. turned t (map_of here q)) = law.turned_cube here t in
+      let back = law.taken_back (λ q. turned t (map_of here q)) cube in
+      let there : position_of step (map_of back.0) ≡ x = ap (λ s. position_of s (map_of back.0)) (sym same) ∙ sym (at back.0 back.1) in
+      subst (IsTailAt step side (map_of c) head) there (law.tail step side c head (λ q. turned t (map_of here q)) back.0 cube is starts back.1)
+
+  pub tail_here : (d : Cube) (x y : List GoalCoordinates) → IsHere step side (map_of c) head (map_of here) → IsTrue (may_start step (map_of here))
+      → TakesBack here d → HasPosition step (map_of d) y → x ≡ y → IsTailAt step side (map_of c) head x
+  tail_here d x y is starts back at same =
+      subst (IsTailAt step side (map_of c) head) (at.here ∙ sym same) (law.tail step side c head (map_of here) d (here, λ q l. refl) is starts back)

@@ -7,7 +7,7 @@ use Rattle.niss_search.specs.BothSides.{Pair}
 use Rattle.niss_search.specs.BothWalk.{join, kept, is_kept, joined, keeps, StaysJoined, JoinedTook, JoinedRefused}
 use Rattle.niss_search.specs.declared.searching.both.Ends.{Ends}
 use Rattle.niss_search.specs.declared.searching.both.joined.Joined.{Joined}
-use Rattle.niss_search.specs.declared.searching.both.walk.Side.{Side}
+use Rattle.niss_search.specs.declared.searching.both.splitting.Side.{Side}
 
 -- a count goes as far as numbers go
 abbrev pub top : ℕ

@@ -13,11 +13,10 @@ use Rattle.niss_search.proofs.Words.{position_of, nat_lt, flat_map, count_by, re
 use Rattle.niss_search.proofs.Words.{All-take, reached, All-cons, All-map, goals_of, slice_of, twist_of, filter, nat_le, turned, IsTrue}
 use Rattle.niss_search.proofs.Words.{All-nil, Option, Domino, IsCube, SameMap, flip_of, sum_by, ◌++◌, take, Place, looks, up_to, subst}
 use Rattle.niss_search.proofs.Words.{Edges, holds, ◌-◌, map, All, ◌↔◌, Flip, Axis, Goal, leb-true}
-use Rattle.niss_cube.specs.StepLaws.{StartIsKeptBefore, InversesOfSteps, InverseHasSteps}
+use Rattle.niss_cube.specs.StepLaws.{InverseHasSteps}
 use Rattle.niss_cube.specs.BadPieces.{TakesBack}
 use Rattle.niss_cube.specs.Map.{map_of}
 use Rattle.niss_cube.specs.declared.cube.Cube.{Cube}
-use Rattle.niss_moves.specs.Effects.{inverse_turn}
 use Rattle.std.proofs.lemmas.List.Folds.{Any-from_list_any}
 use Rattle.niss_search.specs.Laws.{DistanceIsShortest, DistanceIsShortestIn}
 use Rattle.std.proofs.lemmas.Bool.{cases_lt}
@@ -314,13 +313,6 @@ module _ (law : PositionsFollowCubes) (step : Step) where
       let same : leb (distance_at step x) 0 ≡ reached step e = distance_at-goal step x ∙ sym ((law.follow step).goal e x h) in
       (λ z. sym same ∙ ap (λ n. leb n 0) z, λ k. omega (arith, leb-true (distance_at step x) 0 (same ∙ k)))
 
--- a step may start after the inverse of one of its turns is made before all that made a cube
-pub starts_before : StartIsKeptBefore → InversesOfSteps → StepsSeePlaces → (s : Step) (c d : Cube) (t u : Turn) → Contains (turns_of s) t → u ≡ inverse_turn t
-    → IsTrue (may_start s (map_of c)) → SameMap (map_of d) (λ q. map_of c (turned u q)) → IsTrue (may_start s (map_of d))
-starts_before before inverses see s c d t u of is starts same =
-    let member : Contains (turns_of s) u = subst (Contains (turns_of s)) (sym is) (inverses s t of) in
-    (see (map_of d) (λ q. map_of c (turned u q)) same).start s ∙ before s (map_of c) u member starts
-
--- and on the inverse of a cube as on the cube
+-- A step may start on the inverse of a cube as on the cube.
 pub starts_inverse : InverseHasSteps → (s : Step) (c d : Cube) → TakesBack c d → IsTrue (may_start s (map_of c)) → IsTrue (may_start s (map_of d))
 starts_inverse law s c d back starts = sym ((law c d back).start s) ∙ starts

@@ -1,23 +1,26 @@
 -- The search over both sides from within: the shorter side of a pair is its head, the other one its tail. (For the search's own
 -- functions.)
 use Rattle.std.specs.Prelude.{◌≡◌, ◌⊎◌, ℕ, ◌+◌, ◌^◌, ◌-◌, min, nat_le, if◌then◌else◌, Bool, true, false, not, ◌&&◌, ◌||◌}
-use Rattle.std.specs.Prelude.{List, [], length, take, map, filter, flat_map, sum_by}
+use Rattle.std.specs.Prelude.{IsTrue, List, [], ◌∷◌, ◌++◌, length, take, map, filter, flat_map, sum_by}
 use Rattle.std.specs.List.{list_any, range_with_len}
 use Rattle.niss_moves.specs.Places.{Place, SameMap, IsPlace}
 use Rattle.niss_cube.specs.Map.{map_of}
+use Rattle.niss_moves.specs.Effects.{turned}
 use Rattle.niss_cube.specs.AfterTurn.{IsCube}
-use Rattle.niss_cube.specs.Steps.{turns_of, reached}
+use Rattle.niss_cube.specs.Inverses.{IsTakenBack}
+use Rattle.niss_cube.specs.declared.cube.Cube.{Cube}
+use Rattle.niss_cube.specs.Steps.{turns_of, may_start, reached}
 use Rattle.niss_search.specs.Names.{Turn, Step, GoalCoordinates}
 use Rattle.niss_search.specs.Delivery.{Path}
 use Rattle.niss_search.specs.Solutions.{Space, Homomorphism, after_all, reaching, distance, looks}
 use Rattle.niss_search.specs.Cubes.{cubes, HasPosition}
-use Rattle.niss_search.specs.Positions.{positions}
+use Rattle.niss_search.specs.Positions.{positions, position_of, distance_at}
 use Rattle.niss_search.specs.Deepening.{below}
 use Rattle.niss_search.specs.BothSides.{Pair, pair, inverse_side, ends_idle, begins_reached, leaves_out, has_ends}
 use Rattle.niss_search.specs.declared.searching.both.Ends.{Ends}
-use Rattle.niss_search.specs.declared.searching.both.walk.Side.{Side}
-use Rattle.niss_search.specs.declared.searching.both.walk.Side.TheVariants.{Normal, Inverse}
-use Rattle.niss_search.specs.declared.searching.both.walk.Split.{Split}
+use Rattle.niss_search.specs.declared.searching.both.splitting.Side.{Side}
+use Rattle.niss_search.specs.declared.searching.both.splitting.Side.TheVariants.{Normal, Inverse}
+use Rattle.niss_search.specs.declared.searching.both.splitting.Split.{Split}
 use Rattle.niss_search.specs.declared.searching.both.joined.Joined.{Joined}
 
 -- the cubes of a step after its turns on a side, and on the other
@@ -77,11 +80,6 @@ module _ (ends : Ends) (step : Step) (e : Place → Place) (side : Side) (tail :
 abbrev pub part_of_lengths : Ends → (step : Step) → (e : Place → Place) → (i j : ℕ) → PairPart
 part_of_lengths ends step e i j = let split = split_of i j in after_heads ends step e split.side split.tail [] split.head
 
--- The cube of the other side: on that, a head on this side stands before all that made it.
-abbrev pub IsOther : Step → Side → (e : Place → Place) → (head : List Turn) → (other : Place → Place) → Type 0
-IsOther step Normal e head other = (q : Place) → IsPlace q → other (after_all (cubes step) e head q) ≡ q
-IsOther step Inverse e head other = SameMap other (after_all (inverse_side step) e head)
-
 -- A cube whose inverse has the position.
 pub record HasInverseAt (step : Step) (e : Place → Place) (x : List GoalCoordinates) : Type 0 where
   pub inverse : Place → Place
@@ -92,6 +90,44 @@ pub record HasInverseAt (step : Step) (e : Place → Place) (x : List GoalCoordi
 -- A position follows the turns on the inverse, by the inverse's position.
 abbrev pub PositionsFollowInverses : Type 0
 PositionsFollowInverses = (step : Step) → Homomorphism (HasInverseAt step) (inverse_side step) (positions step)
+
+-- The cube of the head's own side after the head. If that is the inverse, it is the inverse of the cube after the turns there.
+abbrev pub IsHere : Step → Side → (e : Place → Place) → (head : List Turn) → (here : Place → Place) → Type 0
+IsHere step Normal e head here = SameMap here (after_all (cubes step) e head)
+IsHere step Inverse e head here = (q : Place) → IsPlace q → here (after_all (inverse_side step) e head q) ≡ q
+
+-- After the head the other side has the position.
+abbrev pub IsTailAt : Step → Side → (e : Place → Place) → (head : List Turn) → List GoalCoordinates → Type 0
+IsTailAt step Normal e head x = HasInverseAt step (after_all (cubes step) e head) x
+IsTailAt step Inverse e head x = HasPosition step (after_all (inverse_side step) e head) x
+
+-- How the cube of the head's side and the other side's position follow heads.
+pub record TailsFollowHeads : Type 0 where
+  -- a map that is the same on the places is the same
+  pub same :
+      (step : Step) (side : Side) (c : Cube) (head : List Turn) (here now : Place → Place) →
+      IsHere step side (map_of c) head here → SameMap now here → IsHere step side (map_of c) head now
+  -- one turn more
+  pub next :
+      (step : Step) (side : Side) (c : Cube) (head : List Turn) (here : Place → Place) (t : Turn) →
+      IsHere step side (map_of c) head here → IsHere step side (map_of c) (head ++ t ∷ []) (λ q. turned t (here q))
+  -- the other side's position is that of whatever takes the cube back, and there is such a cube
+  pub tail :
+      (step : Step) (side : Side) (c : Cube) (head : List Turn) (here : Place → Place) (d : Cube) →
+      IsCube here → IsHere step side (map_of c) head here → IsTrue (may_start step here) → IsTakenBack here d →
+      IsTailAt step side (map_of c) head (position_of step (map_of d))
+  pub taken_back : (here : Place → Place) → IsCube here → (d : Cube) × IsTakenBack here d
+  pub turned_cube : (c : Cube) (t : Turn) → IsCube (λ q. turned t (map_of c q))
+  -- what the search of the other side finds and how often it looks, by the position alone
+  pub found :
+      (step : Step) (side : Side) (c : Cube) (head : List Turn) (x : List GoalCoordinates) (k : ℕ) →
+      IsTailAt step side (map_of c) head x →
+      reaching (on_other side step) (after_all (on_side side step) (map_of c) head) k ≡ reaching (positions step) x k
+  pub looked :
+      (step : Step) (side : Side) (c : Cube) (head : List Turn) (x : List GoalCoordinates) (k : ℕ) →
+      IsTailAt step side (map_of c) head x →
+      looks (on_other side step) (distance (on_other side step)) (after_all (on_side side step) (map_of c) head) k
+      ≡ looks (positions step) (distance_at step) x k
 
 -- Is the step reached from a cube after the first turns, but not all?
 unfoldable pub reached_along : Step → (Place → Place) → List Turn → Bool

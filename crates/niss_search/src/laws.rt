@@ -5,13 +5,13 @@ ghost use Rattle.niss_search.specs.Laws.{FirstIsLeast, DistanceIsShortest, StepB
 ghost use Rattle.niss_search.specs.Laws.{EntriesAreCounted, EdgeFillIsSmall, FillIsSmall, DistanceIsLeast};
 ghost use Rattle.niss_search.specs.Laws.{PositionsFollowCubes, SolutionsAreSequences, AfterIsRest};
 ghost use Rattle.niss_search.specs.Filling.{EntriesTurn};
-ghost use Rattle.niss_search.specs.BothWalk.{PositionsFollowInverses};
+ghost use Rattle.niss_search.specs.BothWalk.{PositionsFollowInverses, TailsFollowHeads};
 
 use crate::path::Limit;
 use niss_cube::laws::{
-    are_coordinates, cubes_permute_places, domino_keeps_start, inverse_has_steps,
-    inverses_of_steps, start_is_kept, step_turns_in_order, steps_see_places, turned_before_is_cube,
-    turned_is_cube,
+    are_coordinates, cubes_are_taken_back, cubes_permute_places, domino_keeps_start,
+    inverse_has_steps, inverses_of_steps, start_is_kept, step_turns_in_order, steps_see_places,
+    turned_before_is_cube, turned_is_cube,
 };
 use niss_moves::laws::{canonical_members, inverse_is_undone, places_stay};
 
@@ -93,6 +93,22 @@ pub(crate) fn positions_follow_inverses()
     cubes_permute_places();
     steps_see_places();
     inverse_has_steps();
+}
+
+/// How the cube of a head's side and the position of the other side follow heads.
+pub(crate) fn tails_follow_heads()
+    ensures { TailsFollowHeads }
+{
+    positions_follow_cubes();
+    positions_follow_inverses();
+    cubes_are_taken_back();
+    cubes_permute_places();
+    inverse_has_steps();
+    inverse_is_undone();
+    places_stay();
+    steps_see_places();
+    turned_before_is_cube();
+    turned_is_cube();
 }
 
 /// How the turns of a step lead between the entries of its pruning table.

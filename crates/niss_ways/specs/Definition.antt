@@ -43,7 +43,7 @@ module _ (step : Step) (e : Place → Place) where
   shortest kind = option_map_or (first_pairs step e kind) (least_pair_length step e kind 20) []
 
 -- Twins have any directions of the quarter turns behind which only turns of the axis stand. The first in turn order
--- stands for them.
+-- stands for them, but if a half turn of the axis stands there: the step is reached without that too.
 abbrev pub either_way : Power → List Power
 either_way Half = Half ∷ []
 either_way _ = Quarter ∷ Counter ∷ []

@@ -7,16 +7,19 @@ ghost use Rattle.niss_cube.specs.Sets.{Kept, is_kept, set_of};
 ghost use Rattle.niss_cube.specs.Coordinates.{IsRank, count_of, face_for, rank_of, renamed_for, renaming_for, standard_axis, turn_for};
 ghost use Rattle.niss_cube.specs.AfterTurn.{rank_after};
 ghost use Rattle.niss_cube.specs.BadPlaces.{bad_mask, bad_count};
+ghost use Rattle.niss_cube.specs.Inverses.{IsInverseRank};
 ghost use Rattle.std.specs.Int.RustNames.{count_ones};
 
 use super::{CORNERS_HOME, Cube, EDGES_HOME};
 use crate::cubie_turns::{cubie_turn, turn_homes, turn_orientations};
 use bad_places::{flip_marks, mask_of_turned, slice_marks, twist_marks};
+use inverse::{flip_digits, orientation_rank_back, slice_places, slice_rank_back, twist_digits};
 use niss_moves::{Axis, Face, Turn};
 use ranking::{rank_digits, rank_slice, unrank_orientations, unrank_slice};
 use renaming::Renaming;
 
 mod bad_places;
+mod inverse;
 mod move_rows;
 mod ranking;
 pub(crate) mod renaming;
@@ -50,6 +53,32 @@ impl Coordinate {
         ensures { IsRank self axis (map_of cube.now) result }
     {
         self.standard_rank(&self.renamed(axis, cube))
+    }
+
+    /// The rank on an axis of the inverse of a cube after a turn, below `count`. Neither the turned cube nor its inverse is
+    /// made: each cubie that the coordinate depends on says what it counts.
+    #[inline(always)]
+    pub fn inverse_rank_after(self, axis: Axis, cube: &Cube, turn: Turn) -> u16
+        ensures { IsInverseRank self axis (λ q. turned turn (map_of cube.now q)) result }
+    {
+        let table = cubie_turn(turn);
+        match self {
+            Coordinate::Flip => orientation_rank_back::<12, 2>(
+                &cube.edges,
+                &cube.flips,
+                &table.edges,
+                &table.flips,
+                flip_digits(axis),
+            ),
+            Coordinate::Twist => orientation_rank_back::<8, 3>(
+                &cube.corners,
+                &cube.twists,
+                &table.corners,
+                &table.twists,
+                twist_digits(axis),
+            ),
+            Coordinate::Slice => slice_rank_back(&cube.edges, &table.edges, slice_places(axis)),
+        }
     }
 
     /// Whether it is 0 on an axis: whether the cube keeps its set of places.

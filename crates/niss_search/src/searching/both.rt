@@ -12,6 +12,7 @@ ghost use Rattle.niss_search.specs.declared.searching.both.Ends.TheVariants.{Any
 ghost use Rattle.niss_search.specs.declared.searching.both.Sides.TheVariants.{Both};
 
 mod joined;
+mod splitting;
 mod walk;
 
 use super::{Outcome, last_length};
@@ -21,8 +22,9 @@ use crate::tables::{Meter, Tables};
 pub use joined::begins_reached;
 use niss_cube::laws::idle_turns_leave_steps;
 use niss_cube::{Cube, Power, Turn};
+use splitting::Split;
 use std::alloc::Allocator;
-use walk::{Split, Walk};
+use walk::Walk;
 
 /// The sides that a search has turns on: the normal one, the inverse, or both.
 #[derive(Clone, Copy, Debug, PartialEq, Eq)]

@@ -1,8 +1,9 @@
 //! One length: depth first from a position, with a look before each turn that is put on the path.
-ghost use Rattle.std.specs.Prelude.{◌≡◌, ◌+◌, ◌≤◌, ◌<◌, ◌^◌, ◌∷◌, length, [], ◌++◌, All, IfSome, IfNone};
+ghost use Rattle.std.specs.Prelude.{◌≡◌, ◌+◌, ◌≤◌, ◌<◌, ◌^◌, ◌∷◌, length, [], ◌++◌, All, IfSome, IfNone, IfOk};
 ghost use Rattle.niss_search.specs.Cubes.{IsPosition};
 ghost use Rattle.niss_search.specs.Positions.{distance_at};
-ghost use Rattle.niss_search.specs.Deepening.{below_at, beyond_at, MayMake, HasMade, turns};
+ghost use Rattle.niss_search.specs.Budgets.{HasSpent};
+ghost use Rattle.niss_search.specs.Deepening.{below_at, beyond_at, MayMake, HasMade, Delivers, turns};
 ghost use Rattle.niss_search.specs.Followers.{IsFollower, IsNextNear, AreFar};
 
 use super::Sink;
@@ -11,6 +12,7 @@ use crate::path::TurnPath;
 use crate::tables::{Follower, Kind, Meter, Position, SearchTables, StateSpace, Tables};
 use niss_moves::Turn;
 use std::alloc::{AllocError, Allocator};
+use std::mem;
 
 /// What guides a descent: the tables that say how far states are from the step, and how often it may look. It goes by
 /// value, as the meter does: where the tables stand is then known in a register.
@@ -199,6 +201,43 @@ impl<K: Sink> Descent<'_, K> {
         self.path.pop();
         below
     }
+}
+
+/// Goes on from a state that was looked at, and is near enough, exactly as deep as the path may get long. Hands what it
+/// finds to the sink, and returns how much that is.
+pub(super) fn descend_from<S: StateSpace, K: Sink, B: Budget<K::Fault>>(
+    guide: Guide<'_, SearchTables<S>, B>,
+    state: S::State,
+    path: &mut TurnPath,
+    meter: &mut Meter,
+    sink: &mut K,
+) -> Result<u128, B::Stop>
+    requires near { distance_at guide.tables.now.step (S.seen guide.tables.now.space state) ≤ path.old.limit }
+    requires empty { path.old.turns ≡ [] }
+    requires looked { 0 < meter.old }
+    requires meter { meter.old
+        + (beyond_at guide.tables.now.step (S.seen guide.tables.now.space state) [] path.old.limit).looks < 2 ^ 128 }
+    requires budget { meter.old ≤ B.bound guide.budget.now }
+    ensures delivers { Delivers K.took K.refused path.old.limit
+        (beyond_at guide.entry.tables.now.step (S.seen guide.entry.tables.now.space state) [] path.old.limit)
+        meter.old meter.new sink.old sink.new B.is_cut (B.bound guide.entry.budget.now) (λ count. count) result }
+    ensures within { meter.new ≤ B.bound guide.entry.budget.now }
+    ensures spent { HasSpent B.is_cut (B.bound guide.entry.budget.now) guide.entry.tables.now.step meter.new result }
+    ensures counted { IfOk result (λ count. meter.old + count ≤ meter.new + 1) }
+{
+    let length = path.limit().get();
+    // by value, as the descent takes it: what stands in its place meanwhile never ticks
+    let held = mem::replace(meter, Meter::new());
+    let mut descent = Descent {
+        path,
+        sink,
+        count: 0,
+    };
+    let (after, ended) = descent.extend(guide, state, length, held);
+    let solutions = descent.count;
+    *meter = after;
+    ended?;
+    Ok(solutions)
 }
 
 /// Looks at the state after each turn, up to the first after which the look allows `left` turns more; returns its

@@ -1,16 +1,20 @@
 //! How the turns of a step move the coordinates of one of its goals.
 ghost use Rattle.std.specs.Prelude.{◌≡◌, ◌+◌, ◌*◌, ◌<◌, ◌≤◌, length, IfOk};
+ghost use Rattle.niss_moves.specs.Effects.{turned};
+ghost use Rattle.niss_cube.specs.declared.cube.Cube.{Cube as Cubes};
+ghost use Rattle.niss_cube.specs.Inverses.{IsTakenBack};
+ghost use Rattle.niss_cube.specs.Map.{map_of};
 ghost use Rattle.niss_cube.specs.Steps.{turns_of};
 ghost use Rattle.niss_search.specs.Names.{Edges, Domino, GoalCoordinates, Flip, TwistAndSlice};
 ghost use Rattle.niss_search.specs.Entries.{count_for};
 ghost use Rattle.niss_search.specs.Filling.{Alternative, IsEntry, AreStarts, ArePlaces, row_length, entry_number};
 ghost use Rattle.niss_search.specs.Moves.{turn_at};
-ghost use Rattle.niss_search.specs.Positions.{coordinates_after};
+ghost use Rattle.niss_search.specs.Positions.{coordinates_of, coordinates_after};
 ghost use Rattle.niss_cube.specs.declared.cube.coordinate.Coordinate.TheVariants as coordinate;
 
 use super::move_table::{MOST_STEP_TURNS, MoveTable, Row};
 use super::position::GoalCoordinates;
-use niss_cube::{Axis, Coordinate, OutOfMemory, Step};
+use niss_cube::{Axis, Coordinate, Cube, OutOfMemory, Step, Turn};
 use std::alloc::Allocator;
 
 /// All turns: what a step may make that orients edges.
@@ -69,6 +73,11 @@ pub trait GoalMoves {
     fn state(&self, coordinates: GoalCoordinates) -> Self::State
         requires { IsEntry (alternative self.now).goal coordinates }
         ensures { seen self.now result ≡ coordinates };
+
+    /// The state of the inverse of a cube after a turn.
+    fn inverse_after(&self, cube: &Cube, turn: Turn) -> Self::State
+        ensures { (d : Cubes) → IsTakenBack (λ q. turned turn (map_of cube.now q)) d
+            → seen self.now result ≡ coordinates_of (alternative self.now).goal (map_of d) };
 
     /// The coordinates of a state.
     fn coordinates_of(&self, state: Self::State) -> GoalCoordinates
@@ -146,6 +155,13 @@ impl<A: Allocator> GoalMoves for EdgeMoves<A> {
         match coordinates {
             GoalCoordinates::Flip { flip, .. } => FlipState { flip },
             GoalCoordinates::TwistAndSlice { .. } => unreachable!(),
+        }
+    }
+
+    #[inline(always)]
+    fn inverse_after(&self, cube: &Cube, turn: Turn) -> FlipState {
+        FlipState {
+            flip: Coordinate::Flip.inverse_rank_after(self.flips.axis(), cube, turn),
         }
     }
 
@@ -250,6 +266,15 @@ impl<A: Allocator> GoalMoves for DominoMoves<A> {
         match coordinates {
             GoalCoordinates::TwistAndSlice { twist, slice, .. } => PairState { twist, slice },
             GoalCoordinates::Flip { .. } => unreachable!(),
+        }
+    }
+
+    #[inline(always)]
+    fn inverse_after(&self, cube: &Cube, turn: Turn) -> PairState {
+        let axis = self.twists.axis();
+        PairState {
+            twist: Coordinate::Twist.inverse_rank_after(axis, cube, turn),
+            slice: Coordinate::Slice.inverse_rank_after(axis, cube, turn),
         }
     }
 

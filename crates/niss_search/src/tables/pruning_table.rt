@@ -9,7 +9,7 @@ use super::position::GoalCoordinates;
 use super::state_space::StateSpace;
 use crate::path::Limit;
 use arrayvec::ArrayVec;
-use niss_cube::OutOfMemory;
+use niss_cube::{Cube, OutOfMemory, Turn};
 use std::alloc::Allocator;
 use std::marker::Model;
 
@@ -100,6 +100,11 @@ impl<M: GoalMoves, A: Allocator> StateSpace for PruningTable<M, A> {
             unreachable!()
         };
         self.state_of(coordinates)
+    }
+
+    #[inline(always)]
+    fn inverse_after(&self, cube: &Cube, turn: Turn) -> M::State {
+        self.moves.inverse_after(cube, turn)
     }
 
     fn put_coordinates(&self, state: M::State, list: &mut ArrayVec<GoalCoordinates, 3>) {

@@ -1,11 +1,15 @@
 //! The tables of a search, by the kind of its states.
 ghost use Rattle.std.specs.Prelude.{◌≡◌, ◌+◌, ◌<◌, ◌^◌, Contains};
 ghost use Rattle.niss_moves.specs.Canonical.{may_follow};
+ghost use Rattle.niss_moves.specs.Effects.{turned};
+ghost use Rattle.niss_cube.specs.declared.cube.Cube.{Cube as Cubes};
+ghost use Rattle.niss_cube.specs.Inverses.{IsTakenBack};
+ghost use Rattle.niss_cube.specs.Map.{map_of};
 ghost use Rattle.niss_cube.specs.Steps.{turns_of};
 ghost use Rattle.niss_search.specs.Cubes.{IsPosition};
 ghost use Rattle.niss_search.specs.Followers.{IsFollower, AreFollowers};
 ghost use Rattle.niss_search.specs.StepSpace.{IsSpaceOf};
-ghost use Rattle.niss_search.specs.Positions.{position_after, distance_at};
+ghost use Rattle.niss_search.specs.Positions.{position_of, position_after, distance_at};
 
 use super::followers::{Follower, Followers};
 use super::meter::Meter;
@@ -13,7 +17,7 @@ use super::position::Position;
 use super::state_space::StateSpace;
 use arrayvec::ArrayVec;
 use niss_cube::laws::are_coordinates;
-use niss_cube::{Step, Turn};
+use niss_cube::{Cube, Step, Turn};
 use std::marker::Model;
 
 /// The turns of a step that may follow each other, and the space of its states.
@@ -59,6 +63,15 @@ impl<S: StateSpace> SearchTables<S> {
     {
         are_coordinates();
         self.space.state(position.coordinates())
+    }
+
+    /// The state of the inverse of a cube after a turn. It isn't inlined: it is long, and each search would have a copy of it.
+    #[inline(never)]
+    pub fn inverse_after(&self, cube: &Cube, turn: Turn) -> S::State
+        ensures { (d : Cubes) → IsTakenBack (λ q. turned turn (map_of cube.now q)) d
+            → S.seen self.now.space result ≡ position_of self.now.step (map_of d) }
+    {
+        self.space.inverse_after(cube, turn)
     }
 
     /// The position after a turn of the step.

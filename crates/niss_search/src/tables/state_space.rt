@@ -1,15 +1,20 @@
 //! What a search goes through: the states of a step, and how far each is from it.
-ghost use Rattle.std.specs.Prelude.{◌≡◌, List, ◌+◌, ◌<◌, ◌≤◌, ◌++◌, ◌∷◌, length};
+ghost use Rattle.std.specs.Prelude.{◌≡◌, List, ◌+◌, ◌<◌, ◌≤◌, ◌++◌, ◌∷◌, length, map};
+ghost use Rattle.niss_moves.specs.Effects.{turned};
+ghost use Rattle.niss_cube.specs.declared.cube.Cube.{Cube as Cubes};
+ghost use Rattle.niss_cube.specs.Inverses.{IsTakenBack};
+ghost use Rattle.niss_cube.specs.Map.{map_of};
 ghost use Rattle.niss_cube.specs.Steps.{turns_of};
 ghost use Rattle.niss_search.specs.Names.{Goal, Step as TheStep, GoalCoordinates};
 ghost use Rattle.niss_search.specs.Filling.{AreEntries};
 ghost use Rattle.niss_search.specs.Moves.{turn_at};
-ghost use Rattle.niss_search.specs.Positions.{position_after, distance_at};
+ghost use Rattle.niss_search.specs.Positions.{coordinates_of, position_after, distance_at};
 
 use super::goal_moves::GoalMoves;
 use super::position::GoalCoordinates;
 use super::pruning_table::PruningTable;
 use arrayvec::ArrayVec;
+use niss_cube::{Cube, Turn};
 use std::alloc::Allocator;
 use std::marker::Model;
 
@@ -32,6 +37,11 @@ pub trait StateSpace {
     fn state(&self, coordinates: &[GoalCoordinates]) -> Self::State
         requires { AreEntries (goals self.now) coordinates.now }
         ensures { seen self.now result ≡ coordinates.now };
+
+    /// The state of the inverse of a cube after a turn.
+    fn inverse_after(&self, cube: &Cube, turn: Turn) -> Self::State
+        ensures { (d : Cubes) → IsTakenBack (λ q. turned turn (map_of cube.now q)) d
+            → seen self.now result ≡ map (λ goal. coordinates_of goal (map_of d)) (goals self.now) };
 
     /// Appends the coordinates of a state, a goal after the other.
     fn put_coordinates(&self, state: Self::State, list: &mut ArrayVec<GoalCoordinates, 3>)
@@ -91,6 +101,14 @@ impl<M: GoalMoves, A: Allocator, S: StateSpace> StateSpace for GoalAndOthers<M, 
             unreachable!()
         };
         (self.first.state_of(*first), self.others.state(others))
+    }
+
+    #[inline(always)]
+    fn inverse_after(&self, cube: &Cube, turn: Turn) -> (M::State, S::State) {
+        (
+            self.first.inverse_after(cube, turn),
+            self.others.inverse_after(cube, turn),
+        )
     }
 
     fn put_coordinates(

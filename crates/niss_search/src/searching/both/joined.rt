@@ -7,7 +7,7 @@ ghost use Rattle.niss_search.specs.Solutions.{after_all};
 ghost use Rattle.niss_search.specs.BothSides.{pair, begins_reached};
 ghost use Rattle.niss_search.specs.BothWalk.{JoinedTook, JoinedRefused, is_kept, reached_along};
 
-use super::walk::Side;
+use super::splitting::Side;
 use super::{Ends, PairSink};
 use crate::path::TurnPath;
 use crate::searching::Sink;

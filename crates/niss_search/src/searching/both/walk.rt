@@ -1,62 +1,26 @@
 //! The walk through the shorter sides of pairs, the heads, with a search of the other side after each for tails.
-ghost use Rattle.std.specs.Prelude.{◌≡◌, ◌+◌, ◌*◌, ◌≤◌, ◌^◌, ◌==◌, ◌&&◌, ◌||◌, ◌++◌, ◌∷◌, false, [], length, IsTrue, IfOk};
+ghost use Rattle.std.specs.Prelude.{◌≡◌, ◌+◌, ◌-◌, ◌*◌, ◌<◌, ◌≤◌, ◌^◌, ◌==◌, ◌&&◌, ◌||◌, ◌++◌, ◌∷◌, false, [], length, IsTrue, IfOk};
+ghost use Rattle.niss_moves.specs.Effects.{turned};
 ghost use Rattle.niss_cube.specs.Map.{map_of};
 ghost use Rattle.niss_cube.specs.Steps.{may_start};
 ghost use Rattle.niss_search.specs.Budgets.{is_cut_in, HasSpent};
 ghost use Rattle.niss_search.specs.BothSides.{HandsOut, skips};
-ghost use Rattle.niss_search.specs.BothWalk.{IsOther, after_heads, after_head, ends_here, split_of};
+ghost use Rattle.niss_search.specs.BothWalk.{IsHere, IsTailAt, after_heads, after_head, ends_here};
 ghost use Rattle.niss_search.specs.Followers.{IsFollower};
+ghost use Rattle.niss_search.specs.Positions.{distance_at};
 
 use super::joined::Joined;
+use super::splitting::Side;
 use super::{Ends, PairSink};
 use crate::budget::{Stopped, UpTo};
-use crate::laws::{positions_follow_cubes, positions_follow_inverses};
+use crate::laws::tails_follow_heads;
 use crate::path::{Limit, TurnPath};
-use crate::searching::Root;
-use crate::tables::{Follower, Meter, Tables};
+use crate::searching::depth_first::{Guide, descend_from};
+use crate::tables::{Follower, Kind, Meter, SearchTables, StateSpace, Tables};
 use niss_cube::Cube;
-use niss_cube::laws::{
-    cubes_permute_places, inverse_has_steps, inverses_of_steps, start_is_kept_before,
-    steps_see_places, turned_is_cube,
-};
-use niss_moves::laws::{inverse_undoes, places_stay};
+use niss_cube::laws::{inverse_has_steps, start_is_kept, steps_see_places};
+use niss_moves::Turn;
 use std::alloc::Allocator;
-
-/// A side of a pair.
-#[derive(Clone, Copy)]
-pub(super) enum Side {
-    Normal,
-    Inverse,
-}
-
-/// How the turns of a pair are split: so many of the head, which stands on one side, and of the tail on the other.
-#[derive(Clone, Copy)]
-pub(super) struct Split {
-    pub side: Side,
-    pub head: u8,
-    pub tail: u8,
-}
-
-impl Split {
-    /// The head is the shorter side, and the normal one if they are equally long.
-    pub fn of(normal: u8, inverse: u8) -> Split
-        ensures { result ≡ split_of normal inverse }
-    {
-        if normal <= inverse {
-            Split {
-                side: Side::Normal,
-                head: normal,
-                tail: inverse,
-            }
-        } else {
-            Split {
-                side: Side::Inverse,
-                head: inverse,
-                tail: normal,
-            }
-        }
-    }
-}
 
 /// A turn that a head goes on by, and how many come after it.
 #[derive(Clone, Copy)]
@@ -75,6 +39,9 @@ impl Next {
 }
 
 /// A walk through heads on a side of a cube, with a search for tails of so many turns after each.
+///
+/// It turns the cube of the head's own side. The other side's is the inverse of that, which is never made: its position is
+/// read from the cube.
 #[derive(Drop)]
 pub(super) struct Walk<'a, A: Allocator> {
     pub tables: &'a Tables<A>,
@@ -105,40 +72,43 @@ impl<A: Allocator> Walk<'_, A> {
         ensures within { meter.new ≤ self.now.budget.now.bound }
         ensures spent { HasSpent is_cut_in self.now.budget.now.bound self.now.tables.now meter.new result }
     {
+        let here = self.start();
         let mut path = TurnPath::new(Limit::new(head).unwrap());
-        self.go_on(&self.start(), head, &mut path, meter, sink)
+        if head == 0 {
+            return self.search_at_once(&here, &path, meter, sink);
+        }
+        self.go_on(&here, head, &mut path, meter, sink)
     }
 
-    /// The cube of the other side before any head.
+    /// The cube of the head's side before any head.
     fn start(&self) -> Cube
         requires starts { IsTrue (may_start self.now.tables.now (map_of self.now.cube.now)) }
-        ensures other { IsOther self.now.tables.now self.now.side (map_of self.now.cube.now) [] (map_of result) }
+        ensures here { IsHere self.now.tables.now self.now.side (map_of self.now.cube.now) [] (map_of result) }
         ensures starts { IsTrue (may_start self.now.tables.now (map_of result)) }
     {
         inverse_has_steps();
         match self.side {
-            Side::Normal => self.cube.inverse(),
-            Side::Inverse => *self.cube,
+            Side::Normal => *self.cube,
+            Side::Inverse => self.cube.inverse(),
         }
     }
 
-    /// Goes on below a head with `left` turns more. If there are none, it ends in a turn after which something is searched.
-    /// `other` is the cube of the other side after it.
+    /// Goes on below a head with `left` turns more, one at least. `here` is the cube of the head's side after it.
     #[cycle(heads)]
     fn go_on<K: PairSink>(
         &self,
-        other: &Cube,
+        here: &Cube,
         left: u8,
         head: &mut TurnPath,
         meter: &mut Meter,
         sink: &mut K,
     ) -> Result<u128, Stopped<K::Fault>>
-        requires starts { IsTrue (may_start self.now.tables.now (map_of other.now)) }
-        requires other { IsOther self.now.tables.now self.now.side (map_of self.now.cube.now)
-            head.old.turns (map_of other.now) }
+        requires some { 0 < left }
+        requires starts { IsTrue (may_start self.now.tables.now (map_of here.now)) }
+        requires here { IsHere self.now.tables.now self.now.side (map_of self.now.cube.now)
+            head.old.turns (map_of here.now) }
         requires few { self.now.tail ≤ 20 }
         requires room { length head.old.turns + left ≤ head.old.limit }
-        requires end { left ≡ 0 → ends_here self.now.ends self.now.tables.now head.old.turns ≡ false }
         requires budget { meter.old ≤ self.now.budget.now.bound }
         requires bound { self.now.budget.now.bound ≤ 3 * 2 ^ 126 }
         ensures head { head.new ≡ head.old }
@@ -152,16 +122,13 @@ impl<A: Allocator> Walk<'_, A> {
         ensures within { meter.new ≤ self.now.budget.now.bound }
         ensures spent { HasSpent is_cut_in self.now.budget.now.bound self.now.tables.now meter.new result }
     {
-        if left == 0 {
-            return self.search_tails(other, head, meter, sink);
-        }
         let mut count = 0;
         for follower in self.tables.turns_after(head.last()) {
             let next = Next {
                 follower: *follower,
                 left: left - 1,
             };
-            count += self.follow(other, next, head, meter, sink)?;
+            count += self.follow(here, next, head, meter, sink)?;
         }
         Ok(count)
     }
@@ -171,16 +138,16 @@ impl<A: Allocator> Walk<'_, A> {
     #[cycle(heads)]
     fn follow<K: PairSink>(
         &self,
-        other: &Cube,
+        here: &Cube,
         next: Next,
         head: &mut TurnPath,
         meter: &mut Meter,
         sink: &mut K,
     ) -> Result<u128, Stopped<K::Fault>>
         requires follower { IsFollower self.now.tables.now next.follower }
-        requires starts { IsTrue (may_start self.now.tables.now (map_of other.now)) }
-        requires other { IsOther self.now.tables.now self.now.side (map_of self.now.cube.now)
-            head.old.turns (map_of other.now) }
+        requires starts { IsTrue (may_start self.now.tables.now (map_of here.now)) }
+        requires here { IsHere self.now.tables.now self.now.side (map_of self.now.cube.now)
+            head.old.turns (map_of here.now) }
         requires few { self.now.tail ≤ 20 }
         requires room { length head.old.turns + 1 + next.left ≤ head.old.limit }
         requires budget { meter.old ≤ self.now.budget.now.bound }
@@ -199,32 +166,66 @@ impl<A: Allocator> Walk<'_, A> {
         if next.is_end(self.ends) {
             return Ok(0);
         }
-        inverse_undoes();
-        cubes_permute_places();
-        start_is_kept_before();
-        inverses_of_steps();
-        steps_see_places();
-        places_stay();
-        let turn = next.follower.turn;
-        let mut after = *other;
-        after.turn_before(turn.inverse());
-        head.push(turn);
-        let found = self.go_on(&after, next.left, head, meter, sink);
+        start_is_kept();
+        tails_follow_heads();
+        head.push(next.follower.turn);
+        let found = self.go_below(here, next, head, meter, sink);
         head.pop();
         found
     }
 
-    /// Searches the other side exactly as deep as tails are long, and hands on the pairs.
-    fn search_tails<K: PairSink>(
+    /// Goes on below a head by whose last turn the cube is still to be turned: it isn't if no turn comes after that.
+    #[cycle(heads)]
+    #[inline(always)]
+    fn go_below<K: PairSink>(
         &self,
-        other: &Cube,
+        here: &Cube,
+        next: Next,
+        head: &mut TurnPath,
+        meter: &mut Meter,
+        sink: &mut K,
+    ) -> Result<u128, Stopped<K::Fault>>
+        requires starts { IsTrue (may_start self.now.tables.now (λ q. turned next.follower.turn (map_of here.now q))) }
+        requires here { IsHere self.now.tables.now self.now.side (map_of self.now.cube.now)
+            head.old.turns (λ q. turned next.follower.turn (map_of here.now q)) }
+        requires few { self.now.tail ≤ 20 }
+        requires room { length head.old.turns + next.left ≤ head.old.limit }
+        requires end { next.left ≡ 0 → ends_here self.now.ends self.now.tables.now head.old.turns ≡ false }
+        requires budget { meter.old ≤ self.now.budget.now.bound }
+        requires bound { self.now.budget.now.bound ≤ 3 * 2 ^ 126 }
+        ensures head { head.new ≡ head.old }
+        ensures solutions { HandsOut K.took K.refused
+            (after_heads self.now.ends self.now.tables.now (map_of self.now.cube.now) self.now.side self.now.tail
+            head.old.turns next.left).pairs
+            (after_heads self.now.ends self.now.tables.now (map_of self.now.cube.now) self.now.side self.now.tail
+            head.old.turns next.left).looks
+            meter.old meter.new sink.old sink.new is_cut_in self.now.budget.now.bound (λ count. count) result }
+        ensures counted { IfOk result (λ count. meter.old + count ≤ meter.new) }
+        ensures within { meter.new ≤ self.now.budget.now.bound }
+        ensures spent { HasSpent is_cut_in self.now.budget.now.bound self.now.tables.now meter.new result }
+    {
+        let turn = next.follower.turn;
+        if next.left == 0 {
+            return self.search_after(here, turn, head, meter, sink);
+        }
+        steps_see_places();
+        tails_follow_heads();
+        let mut after = *here;
+        after.turn(turn);
+        self.go_on(&after, next.left, head, meter, sink)
+    }
+
+    /// Searches for tails after no turn.
+    fn search_at_once<K: PairSink>(
+        &self,
+        here: &Cube,
         head: &TurnPath,
         meter: &mut Meter,
         sink: &mut K,
     ) -> Result<u128, Stopped<K::Fault>>
-        requires starts { IsTrue (may_start self.now.tables.now (map_of other.now)) }
-        requires other { IsOther self.now.tables.now self.now.side (map_of self.now.cube.now)
-            head.now.turns (map_of other.now) }
+        requires starts { IsTrue (may_start self.now.tables.now (map_of here.now)) }
+        requires here { IsHere self.now.tables.now self.now.side (map_of self.now.cube.now)
+            head.now.turns (map_of here.now) }
         requires few { self.now.tail ≤ 20 }
         requires end { ends_here self.now.ends self.now.tables.now head.now.turns ≡ false }
         requires budget { meter.old ≤ self.now.budget.now.bound }
@@ -237,14 +238,140 @@ impl<A: Allocator> Walk<'_, A> {
         ensures within { meter.new ≤ self.now.budget.now.bound }
         ensures spent { HasSpent is_cut_in self.now.budget.now.bound self.now.tables.now meter.new result }
     {
-        positions_follow_cubes();
-        positions_follow_inverses();
-        turned_is_cube();
-        let position = self.tables.position(other);
-        let root = Root {
-            tables: self.tables,
-            position: &position,
-        };
+        inverse_has_steps();
+        tails_follow_heads();
+        let position = self.tables.position(&here.inverse());
+        let budget = self.budget;
+        match self.tables.kind() {
+            Kind::Edges(tables) => {
+                let state = tables.state(&position);
+                self.search_from(Guide { tables, budget }, state, head, meter, sink)
+            }
+            Kind::AnyEdges(tables) => {
+                let state = tables.state(&position);
+                self.search_from(Guide { tables, budget }, state, head, meter, sink)
+            }
+            Kind::Domino(tables) => {
+                let state = tables.state(&position);
+                self.search_from(Guide { tables, budget }, state, head, meter, sink)
+            }
+            Kind::EitherDomino(tables) => {
+                let state = tables.state(&position);
+                self.search_from(Guide { tables, budget }, state, head, meter, sink)
+            }
+        }
+    }
+
+    /// Searches for tails after a head by whose last turn the cube is still to be turned.
+    fn search_after<K: PairSink>(
+        &self,
+        here: &Cube,
+        turn: Turn,
+        head: &TurnPath,
+        meter: &mut Meter,
+        sink: &mut K,
+    ) -> Result<u128, Stopped<K::Fault>>
+        requires starts { IsTrue (may_start self.now.tables.now (λ q. turned turn (map_of here.now q))) }
+        requires here { IsHere self.now.tables.now self.now.side (map_of self.now.cube.now)
+            head.now.turns (λ q. turned turn (map_of here.now q)) }
+        requires few { self.now.tail ≤ 20 }
+        requires end { ends_here self.now.ends self.now.tables.now head.now.turns ≡ false }
+        requires budget { meter.old ≤ self.now.budget.now.bound }
+        requires bound { self.now.budget.now.bound ≤ 3 * 2 ^ 126 }
+        ensures solutions { HandsOut K.took K.refused
+            (after_head self.now.ends self.now.tables.now (map_of self.now.cube.now) self.now.side self.now.tail head.now.turns).pairs
+            (after_head self.now.ends self.now.tables.now (map_of self.now.cube.now) self.now.side self.now.tail head.now.turns).looks
+            meter.old meter.new sink.old sink.new is_cut_in self.now.budget.now.bound (λ count. count) result }
+        ensures counted { IfOk result (λ count. meter.old + count ≤ meter.new) }
+        ensures within { meter.new ≤ self.now.budget.now.bound }
+        ensures spent { HasSpent is_cut_in self.now.budget.now.bound self.now.tables.now meter.new result }
+    {
+        tails_follow_heads();
+        let budget = self.budget;
+        match self.tables.kind() {
+            Kind::Edges(tables) => {
+                let state = tables.inverse_after(here, turn);
+                self.search_from(Guide { tables, budget }, state, head, meter, sink)
+            }
+            Kind::AnyEdges(tables) => {
+                let state = tables.inverse_after(here, turn);
+                self.search_from(Guide { tables, budget }, state, head, meter, sink)
+            }
+            Kind::Domino(tables) => {
+                let state = tables.inverse_after(here, turn);
+                self.search_from(Guide { tables, budget }, state, head, meter, sink)
+            }
+            Kind::EitherDomino(tables) => {
+                let state = tables.inverse_after(here, turn);
+                self.search_from(Guide { tables, budget }, state, head, meter, sink)
+            }
+        }
+    }
+
+    /// Searches the other side, which has the state, exactly as deep as tails are long. Most states are too far, which the
+    /// first look shows: nothing is set up before it.
+    #[inline(always)]
+    fn search_from<S: StateSpace, K: PairSink>(
+        &self,
+        guide: Guide<'_, SearchTables<S>, UpTo>,
+        state: S::State,
+        head: &TurnPath,
+        meter: &mut Meter,
+        sink: &mut K,
+    ) -> Result<u128, Stopped<K::Fault>>
+        requires of_step { guide.tables.now.step ≡ self.now.tables.now }
+        requires tail { IsTailAt self.now.tables.now self.now.side (map_of self.now.cube.now)
+            head.now.turns (S.seen guide.tables.now.space state) }
+        requires few { self.now.tail ≤ 20 }
+        requires end { ends_here self.now.ends self.now.tables.now head.now.turns ≡ false }
+        requires budget { meter.old ≤ guide.budget.now.bound }
+        requires bound { guide.budget.now.bound ≤ 3 * 2 ^ 126 }
+        ensures solutions { HandsOut K.took K.refused
+            (after_head self.now.ends self.now.tables.now (map_of self.now.cube.now) self.now.side self.now.tail head.now.turns).pairs
+            (after_head self.now.ends self.now.tables.now (map_of self.now.cube.now) self.now.side self.now.tail head.now.turns).looks
+            meter.old meter.new sink.old sink.new is_cut_in guide.entry.budget.now.bound (λ count. count) result }
+        ensures counted { IfOk result (λ count. meter.old + count ≤ meter.new) }
+        ensures within { meter.new ≤ guide.entry.budget.now.bound }
+        ensures spent { HasSpent is_cut_in guide.entry.budget.now.bound self.now.tables.now meter.new result }
+    {
+        tails_follow_heads();
+        if meter.count() >= guide.budget.bound {
+            return Err(Stopped::Cut);
+        }
+        if guide.tables.look(state, meter) > self.tail {
+            return Ok(0);
+        }
+        self.search_near(guide, state, head, meter, sink)
+    }
+
+    /// The same once the state was looked at and is near enough: hands on the pairs.
+    #[inline(never)]
+    fn search_near<S: StateSpace, K: PairSink>(
+        &self,
+        guide: Guide<'_, SearchTables<S>, UpTo>,
+        state: S::State,
+        head: &TurnPath,
+        meter: &mut Meter,
+        sink: &mut K,
+    ) -> Result<u128, Stopped<K::Fault>>
+        requires of_step { guide.tables.now.step ≡ self.now.tables.now }
+        requires tail { IsTailAt self.now.tables.now self.now.side (map_of self.now.cube.now)
+            head.now.turns (S.seen guide.tables.now.space state) }
+        requires near { distance_at self.now.tables.now (S.seen guide.tables.now.space state) ≤ self.now.tail }
+        requires few { self.now.tail ≤ 20 }
+        requires end { ends_here self.now.ends self.now.tables.now head.now.turns ≡ false }
+        requires looked { 0 < meter.old }
+        requires budget { meter.old ≤ guide.budget.now.bound }
+        requires bound { guide.budget.now.bound ≤ 3 * 2 ^ 126 }
+        ensures solutions { HandsOut K.took K.refused
+            (after_head self.now.ends self.now.tables.now (map_of self.now.cube.now) self.now.side self.now.tail head.now.turns).pairs
+            ((after_head self.now.ends self.now.tables.now (map_of self.now.cube.now) self.now.side self.now.tail head.now.turns).looks - 1)
+            meter.old meter.new sink.old sink.new is_cut_in guide.entry.budget.now.bound (λ count. count) result }
+        ensures counted { IfOk result (λ count. meter.old + count ≤ meter.new + 1) }
+        ensures within { meter.new ≤ guide.entry.budget.now.bound }
+        ensures spent { HasSpent is_cut_in guide.entry.budget.now.bound self.now.tables.now meter.new result }
+    {
+        tails_follow_heads();
         let mut path = TurnPath::new(Limit::new(self.tail).unwrap());
         let mut joined = Joined {
             step: self.tables.step(),
@@ -255,7 +382,7 @@ impl<A: Allocator> Walk<'_, A> {
             sink,
             count: 0,
         };
-        root.deepen(self.tail, &mut path, meter, &mut joined, self.budget)?;
+        descend_from(guide, state, &mut path, meter, &mut joined)?;
         Ok(joined.count)
     }
 }

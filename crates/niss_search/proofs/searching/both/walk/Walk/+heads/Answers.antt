@@ -1,22 +1,11 @@
 use Rattle.niss_search.proofs.Words.{◌≡◌, ◌∙◌, ◌+◌, ◌-◌, ◌≤◌, ◌++◌, ◌∷◌, [], suc, arith, sym, ap, subst, take, take_all, get_or, length, length-append, map_of, Path, false}
-use Rattle.niss_search.proofs.Words.{err_from_is_err_and, turns_of, Contains, Contains-get_or}
+use Rattle.niss_search.proofs.Words.{err_from_is_err_and, turns_of, turned, Contains, Contains-get_or, IsTrue, Place}
 use Rattle.std.proofs.lemmas.List.{take_more}
-use Rattle.niss_search.proofs.LookLemmas.{starts_before}
 use Rattle.niss_search.proofs.DescentParts.{no_follower}
-use Rattle.niss_search.proofs.InverseLemmas.{other_next}
 use Rattle.niss_search.proofs.BothLemmas.{parts_more, parts_stop, list_split, heads-end, heads-next, next_heads, popped, same_went, none_yet, idle_end, live_end}
-use Rattle.niss_moves.specs.declared.token.Token.TheVariants as token
 unfoldable use Rattle.niss_search.specs.BothWalk.{after_heads}
-use Rattle.niss_search.specs.BothWalk.{parts, IsOther, ends_here}
+use Rattle.niss_search.specs.BothWalk.{parts, IsHere, ends_here}
 use Rattle.niss_search.proofs.searching.both.walk.Walk.+heads.Goals as goal
-
-pub go_on-returns-then-left-eq0-clause-solutions : goal.go_on-returns-then-left-eq0-clause-solutions
-go_on-returns-then-left-eq0-clause-solutions g t c =
-    let walk = c.args.self.now in
-    rw (c.if-left-eq0.true, heads-end walk.ends walk.tables.now (map_of walk.cube.now) walk.side walk.tail c.args.head.now.turns) c.search_tails.ensures.solutions
-
-pub go_on-search_tails-requires-clause-end : goal.go_on-search_tails-requires-clause-end
-go_on-search_tails-requires-clause-end g t c = c.requires.end c.if-left-eq0.true
 
 pub go_on-follow-requires : goal.go_on-follow-requires
 go_on-follow-requires g t c κs within =
@@ -26,9 +15,9 @@ go_on-follow-requires g t c κs within =
     let i = c.loop-follower.follower-index in
     let same = sym inv.head in
     let Room : Path → Type 0 = λ q. length q.turns + 1 + (c.args.left - 1) ≤ q.limit in
-    let Other : Path → Type 0 = λ q. IsOther walk.tables.now walk.side (map_of walk.cube.now) q.turns (map_of c.args.other.now) in
-    let room : Room c.args.head.now = omega (arith, c.requires.room, c.if-left-eq0.false) in (
-      omega (arith, c.if-left-eq0.false),
+    let Here : Path → Type 0 = λ q. IsHere walk.tables.now walk.side (map_of walk.cube.now) q.turns (map_of c.args.here.now) in
+    let room : Room c.args.head.now = omega (arith, c.requires.room, c.requires.some) in (
+      omega (arith, c.requires.some),
       (
         within.0,
         (
@@ -37,7 +26,7 @@ go_on-follow-requires g t c κs within =
             within.1.1,
             (
               c.turns_after-follower-items.ensures.columns i no_follower c.loop-follower-test.true,
-              (c.requires.starts, (subst Other same c.requires.other, (c.requires.few, (subst Room same room, (inv.within, c.requires.bound))))),
+              (c.requires.starts, (subst Here same c.requires.here, (c.requires.few, (subst Room same room, (inv.within, c.requires.bound))))),
             ),
           ),
         ),
@@ -60,7 +49,7 @@ go_on-returns-in_err-count-clause-solutions g t c =
     let p = err_from_is_err_and c.from_residual.result c.from_residual.ensures.1 in
     let part = next_heads walk.ends step e walk.side walk.tail head left in
     let stops = rw (inv.head, c.in_err-count.was) at c.follow.ensures.solutions in
-    let one : c.args.left ≡ suc left = omega (arith, c.if-left-eq0.false) in
+    let one : c.args.left ≡ suc left = omega (arith, c.requires.some) in
     let all : after_heads walk.ends step e walk.side walk.tail head c.args.left ≡ parts part items =
     ap (after_heads walk.ends step e walk.side walk.tail head) one ∙ heads-next walk.ends step e walk.side walk.tail head left items (rw c.last.ensures at c.turns_after-follower-items.ensures.turns) in
     let split = list_split items i no_follower c.loop-follower-test.true in
@@ -103,7 +92,7 @@ go_on-returns-clause-solutions g t c =
     let left = c.args.left - 1 in
     let items = c.turns_after-follower-items.result.now in
     let part = next_heads walk.ends step e walk.side walk.tail head left in
-    let one : c.args.left ≡ suc left = omega (arith, c.if-left-eq0.false) in
+    let one : c.args.left ≡ suc left = omega (arith, c.requires.some) in
     let all : after_heads walk.ends step e walk.side walk.tail head c.args.left ≡ parts part items =
     ap (after_heads walk.ends step e walk.side walk.tail head) one ∙ heads-next walk.ends step e walk.side walk.tail head left items (rw c.last.ensures at c.turns_after-follower-items.ensures.turns) in
     let end : take c.loop-follower.follower-index items ≡ items = take_all c.loop-follower.follower-index items (omega (arith, c.loop-follower-test.false, c.loop-follower.auto.follower-index-end)) in
@@ -128,8 +117,8 @@ follow-returns-then-is_end-clause-solutions g t c =
 pub follow-push-requires : goal.follow-push-requires
 follow-push-requires g t c = omega (arith, c.requires.room)
 
-pub follow-go_on-found-requires : goal.follow-go_on-found-requires
-follow-go_on-found-requires g t c κs within =
+pub follow-go_below-found-requires : goal.follow-go_below-found-requires
+follow-go_below-found-requires g t c κs within =
     let walk = c.args.self.now in
     let step = walk.tables.now in
     let turn = c.args.next.follower.turn in
@@ -139,16 +128,12 @@ follow-go_on-found-requires g t c κs within =
     let pushed : Path = record { limit = path.limit; turns = path.turns ++ turn ∷ [] } in
     let is_pushed : c.push.new.self ≡ pushed = c.push.ensures in
     let Room : Path → Type 0 = λ q. length q.turns + c.args.next.left ≤ q.limit in
-    let Other : Path → Type 0 = λ q. IsOther step walk.side (map_of walk.cube.now) q.turns (map_of c.turn_before.new.self) in
+    let Here : Path → Type 0 = λ q. IsHere step walk.side (map_of walk.cube.now) q.turns (λ r. turned turn (map_of c.args.here.now r)) in
     let End : Path → Type 0 = λ q. c.args.next.left ≡ 0 → ends_here walk.ends step q.turns ≡ false in
     let room : Room pushed = omega (arith, c.requires.room, length-append path.turns (turn ∷ [])) in
     let end : End pushed = live_end walk.ends step path.turns c.args.next.follower c.args.next.left c.is_end.result column c.is_end.ensures c.if-is_end.false in
-    let other : Other pushed =
-    other_next c.cubes_permute_places.ensures (λ t q. c.places_stay.ensures (token.Face t) q) step (λ t q. c.inverse_undoes.ensures (token.Face t ∷ []) q) walk.side walk.cube.now c.args.other.now c.turn_before.new.self path.turns turn c.inverse.result
-    c.inverse.ensures c.requires.other c.turn_before.ensures in
-    let starts =
-    starts_before c.start_is_kept_before.ensures c.inverses_of_steps.ensures c.steps_see_places.ensures step c.args.other.now c.turn_before.new.self turn c.inverse.result
-    of_step c.inverse.ensures c.requires.starts c.turn_before.ensures in (
+    let here : Here pushed = c.tails_follow_heads.ensures.next step walk.side walk.cube.now path.turns (map_of c.args.here.now) turn c.requires.here in
+    let starts = c.start_is_kept.ensures step (map_of c.args.here.now) turn of_step c.requires.starts in (
       omega arith,
       (
         within.0,
@@ -159,7 +144,7 @@ follow-go_on-found-requires g t c κs within =
             (
               starts,
               (
-                subst Other (sym is_pushed) other,
+                subst Here (sym is_pushed) here,
                 (c.requires.few, (subst Room (sym is_pushed) room, (subst End (sym is_pushed) end, (c.requires.budget, c.requires.bound)))),
               ),
             ),
@@ -170,8 +155,38 @@ follow-go_on-found-requires g t c κs within =
 
 pub follow-returns-clause-head : goal.follow-returns-clause-head
 follow-returns-clause-head g t c =
-    popped c.args.head.now c.go_on-found.new.head c.pop.new.self c.args.next.follower.turn c.pop.result
-    (c.go_on-found.ensures.head ∙ c.push.ensures) c.pop.ensures.limit c.pop.ensures.some c.pop.ensures.none
+    popped c.args.head.now c.go_below-found.new.head c.pop.new.self c.args.next.follower.turn c.pop.result
+    (c.go_below-found.ensures.head ∙ c.push.ensures) c.pop.ensures.limit c.pop.ensures.some c.pop.ensures.none
 
 pub follow-returns-clause-solutions : goal.follow-returns-clause-solutions
-follow-returns-clause-solutions g t c = rw c.push.ensures at c.go_on-found.ensures.solutions
+follow-returns-clause-solutions g t c = rw c.push.ensures at c.go_below-found.ensures.solutions
+
+pub go_below-returns-then-next-eq0-clause-solutions : goal.go_below-returns-then-next-eq0-clause-solutions
+go_below-returns-then-next-eq0-clause-solutions g t c =
+    let walk = c.args.self.now in
+    rw (c.if-next-eq0.true, heads-end walk.ends walk.tables.now (map_of walk.cube.now) walk.side walk.tail c.args.head.now.turns) c.search_after.ensures.solutions
+
+pub go_below-go_on-requires : goal.go_below-go_on-requires
+go_below-go_on-requires g t c κs within =
+    let walk = c.args.self.now in
+    let step = walk.tables.now in
+    let head = c.args.head.now.turns in
+    let turned_here : Place → Place = λ q. turned c.args.next.follower.turn (map_of c.args.here.now q) in
+    let after = map_of c.turn.new.self in
+    let starts = subst IsTrue (sym ((c.steps_see_places.ensures after turned_here c.turn.ensures).start step)) c.requires.starts in
+    let here = c.tails_follow_heads.ensures.same step walk.side walk.cube.now head turned_here after c.requires.here c.turn.ensures in (
+      omega arith,
+      (
+        within.0,
+        (
+          within.1.0,
+          (
+            within.1.1,
+            (
+              omega (arith, c.if-next-eq0.false),
+              (starts, (here, (c.requires.few, (c.requires.room, (c.requires.budget, c.requires.bound))))),
+            ),
+          ),
+        ),
+      ),
+    )

@@ -5,10 +5,13 @@ use Rattle.niss_search.specs.BothWalk.{parts}
 use Rattle.niss_search.proofs.searching.both.walk.Walk.+heads.Given as goal
 
 abbrev pub decreases-go_on : goal.decreases-go_on
-decreases-go_on g l = 2 * l.left
+decreases-go_on g l = 3 * l.left
 
 abbrev pub decreases-follow : goal.decreases-follow
-decreases-follow g l = 2 * l.next.left + 1
+decreases-follow g l = 3 * l.next.left + 2
+
+abbrev pub decreases-go_below : goal.decreases-go_below
+decreases-go_below g l = 3 * l.next.left + 1
 
 abbrev pub invariant-go_on-loop-follower : goal.invariant-go_on-loop-follower
 invariant-go_on-loop-follower g l =

@@ -1,9 +1,10 @@
-use Rattle.niss_search.proofs.Words.{◌∙◌, ap, Path}
-use Rattle.niss_search.proofs.BothLemmas.{no_end}
-use Rattle.niss_search.specs.BothWalk.{ends_here}
+use Rattle.niss_search.proofs.Words.{[], map_of}
+use Rattle.niss_search.proofs.BothLemmas.{heads-end}
+unfoldable use Rattle.niss_search.specs.BothWalk.{after_heads}
 use Rattle.niss_search.proofs.searching.both.walk.Walk.go.Goals as goal
 
-pub go_on-requires-clause-end : goal.go_on-requires-clause-end
-go_on-requires-clause-end g c =
+pub returns-then-head-eq0-clause-solutions : goal.returns-then-head-eq0-clause-solutions
+returns-then-head-eq0-clause-solutions g c =
     let walk = c.args.self.now in
-    λ none. ap (λ (p : Path). ends_here walk.ends walk.tables.now p.turns) c.new-path.ensures ∙ no_end walk.ends walk.tables.now
+    rw (c.if-head-eq0.true, heads-end walk.ends walk.tables.now (map_of walk.cube.now) walk.side walk.tail [])
+    (rw c.new-path.ensures at c.search_at_once.ensures.solutions)
