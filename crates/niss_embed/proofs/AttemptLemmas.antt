@@ -1,9 +1,6 @@
 -- The room for the moves of some lines.
-use Rattle.std.proofs.Common.{◌≡◌, ℕ, zero, suc, ◌-◌, ◌≤◌, Bool, true, false, cond, List, [], ◌∷◌, take, drop, slice_range, refl, arith}
+use Rattle.std.proofs.Common.{ℕ, zero, suc, ◌-◌, ◌≤◌, Bool, true, false, cond, List, [], ◌∷◌, take, drop, slice_range, arith}
 use Rattle.std.specs.List.{filter}
-use Rattle.niss_text.specs.declared.moves.MovesOf.{MovesOf}
-use Rattle.niss_text.specs.declared.moves.MovesOf.TheVariants.{Scramble, Steps, Solution, EachStep}
-use Rattle.niss_text.specs.Moves.{number_of_moves}
 use Rattle.niss_text.specs.declared.text_line.TextLine.{TextLine}
 unfoldable use Rattle.niss_text.specs.Moves.{most_bytes}
 
@@ -17,14 +14,6 @@ kept_or_not false line rest lines few = omega (arith, few)
 pub most_kept : (p : TextLine → Bool) (lines : List TextLine) → most_bytes (filter p lines) ≤ most_bytes lines
 most_kept p [] = omega arith
 most_kept p (line ∷ lines) = kept_or_not (p line) line (filter p lines) lines (most_kept p lines)
-
--- each number up to three is one of moves
-pub moves_of_number : (which : ℕ) → which ≤ 3 → (of : MovesOf) × (number_of_moves of ≡ which)
-moves_of_number zero low = (Scramble, refl)
-moves_of_number (suc zero) low = (Steps, refl)
-moves_of_number (suc (suc zero)) low = (Solution, refl)
-moves_of_number (suc (suc (suc zero))) low = (EachStep, refl)
-moves_of_number (suc (suc (suc (suc n)))) low = absurd (omega (arith, low))
 
 most_after : (n : ℕ) (lines : List TextLine) → most_bytes (drop n lines) ≤ most_bytes lines
 unfolding most_bytes

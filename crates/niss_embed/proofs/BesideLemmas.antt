@@ -1,5 +1,5 @@
 -- What is found in the steps beside a solution, one step after another.
-use Rattle.std.proofs.Common.{◌≡◌, ◌∙◌, ◌≤◌, ◌&&◌, ℕ, true, false, cond, List, [], ◌∷◌, ◌++◌, sym, ap, subst, if◌then◌else◌, arith}
+use Rattle.std.proofs.Common.{◌≡◌, ◌∙◌, ◌≤◌, ◌&&◌, ℕ, true, false, cond, Option, None, Some, List, [], ◌∷◌, ◌++◌, sym, ap, subst, if◌then◌else◌, arith}
 use Rattle.std.specs.List.{filter, list_any}
 use Rattle.std.proofs.lemmas.List.Elements.{All-cons}
 use Rattle.std.proofs.lemmas.List.{append_assoc}
@@ -9,26 +9,27 @@ use Rattle.niss_text.specs.Moves.{is_wanted}
 unfoldable use Rattle.niss_text.specs.Moves.{most_bytes}
 use Rattle.niss_text.specs.declared.moves.MovesOf.TheVariants.{Solution, EachStep}
 use Rattle.niss_text.specs.declared.text_line.TextLine.{TextLine}
-use Rattle.niss_embed.specs.Doubts.{AreWritten, doubt, no_doubt}
+use Rattle.niss_embed.specs.Doubts.{AreWritten, doubt}
 use Rattle.niss_embed.specs.Beside.{IsDoubtBeside, IsFound, IsLongSeen, IsOfLong, IsOfSteps, IsSeen, turns_of, begins_apart, is_long_other}
 use Rattle.niss_embed.specs.LineFacts.{IsReadAs}
-use Rattle.niss_embed.specs.declared.attempts.Doubt.{Doubt}
+use Rattle.niss_embed.specs.declared.doubts.Doubt.{Doubt}
+use Rattle.niss_embed.specs.declared.doubts.Reason.TheVariants.{AnotherAttempt, SeveralSolutions}
 use Rattle.niss_embed.specs.declared.beside.Beside.{Beside}
 use Rattle.niss_embed.specs.declared.beside.Seen.{Seen}
 
 -- what is found with a step before the others
 pub found_with : (text : List ℕ) (lines : List TextLine) (scramble : Moves) (solution : List Turn) (it result : Beside) (line : TextLine) (seen : Seen) →
     IsFound text lines scramble solution it → is_wanted EachStep line ≡ true → IsSeen (is_long_other line) text line scramble solution seen →
-    result.begins_apart ≡ seen.is_apart → result.another ≡ (if seen.is_apart && it.begins_apart then doubt 13 line.moves else it.another) →
-    result.slip ≡ (if seen.is_slip then doubt 2 line.moves else it.slip) → IsFound text (line ∷ lines) scramble solution result
+    result.begins_apart ≡ seen.is_apart → result.another ≡ (if seen.is_apart && it.begins_apart then Some (doubt AnotherAttempt line.moves) else it.another) →
+    result.slip ≡ (if seen.is_slip then Some (doubt SeveralSolutions line.moves) else it.slip) → IsFound text (line ∷ lines) scramble solution result
 found_with text lines scramble solution it result line seen found wanted is_seen begins another slip = record {
   steps = record { line = line; seen = seen } ∷ found.steps;
   are_lines = ap (λ xs. line ∷ xs) found.are_lines ∙ sym (ap (λ b. cond b (line ∷ filter (is_wanted EachStep) lines) (filter (is_wanted EachStep) lines)) wanted);
   are_seen = All-cons (λ step. IsSeen (is_long_other step.line) text step.line scramble solution step.seen) (record { line = line; seen = seen }) found.steps is_seen found.are_seen;
   begins = begins;
-  another = another ∙ (ap (λ b. if seen.is_apart && b then doubt 13 line.moves else it.another) found.begins
-      ∙ ap (λ other. if seen.is_apart && begins_apart found.steps then doubt 13 line.moves else other) found.another);
-  slip = slip ∙ ap (λ other. if seen.is_slip then doubt 2 line.moves else other) found.slip;
+  another = another ∙ (ap (λ b. if seen.is_apart && b then Some (doubt AnotherAttempt line.moves) else it.another) found.begins
+      ∙ ap (λ other. if seen.is_apart && begins_apart found.steps then Some (doubt AnotherAttempt line.moves) else other) found.another);
+  slip = slip ∙ ap (λ other. if seen.is_slip then Some (doubt SeveralSolutions line.moves) else other) found.slip;
 }
 
 -- a line that is no step changes nothing
@@ -70,7 +71,7 @@ most_of_one lines rest above below line is whole =
     subst (λ xs. most_bytes (line ∷ []) ≤ most_bytes xs) (one_above lines rest above below line is whole) (most_joined above line below)
 
 -- what is told of what can't be read, which nothing is that solves
-pub of_unread : (text : List ℕ) (lines : List TextLine) (scramble solution places : List ℕ) (told : Doubt) → AreWritten text Solution lines solution places →
+pub of_unread : (text : List ℕ) (lines : List TextLine) (scramble solution places : List ℕ) (told : Option Doubt) → AreWritten text Solution lines solution places →
     ((given moves : Moves) → IsReadAs scramble given → IsReadAs solution moves → ⊥) → IsOfLong text lines scramble told
 of_unread text lines scramble solution places told is_solution not =
     record { solution = solution; places = places; is_solution = is_solution; of_steps = λ given moves is_given are_moves. absurd (not given moves is_given are_moves) }
@@ -79,7 +80,7 @@ same_moves : (one other : Moves) (line : List ℕ) → IsReadAs line one → IsR
 same_moves one other line is_one is_other = grind (arith, is_one.1, is_other.1)
 
 -- what is told by scramble and solution as they are read
-pub of_read : (text : List ℕ) (lines : List TextLine) (scramble solution places : List ℕ) (told : Doubt) (given moves : Moves) → AreWritten text Solution lines solution places →
+pub of_read : (text : List ℕ) (lines : List TextLine) (scramble solution places : List ℕ) (told : Option Doubt) (given moves : Moves) → AreWritten text Solution lines solution places →
     IsReadAs scramble given → IsReadAs solution moves → IsOfSteps text lines given (turns_of moves) told → IsOfLong text lines scramble told
 of_read text lines scramble solution places told given moves is_solution is_given are_moves it = record {
   solution = solution;
@@ -91,6 +92,6 @@ of_read text lines scramble solution places told given moves is_solution is_give
 }
 
 -- what is told without any long step
-pub of_none : (text : List ℕ) (lines : List TextLine) (scramble : List ℕ) (told : Doubt) → false ≡ list_any is_long_other lines → told ≡ no_doubt →
+pub of_none : (text : List ℕ) (lines : List TextLine) (scramble : List ℕ) (told : Option Doubt) → false ≡ list_any is_long_other lines → told ≡ None →
     IsDoubtBeside (list_any is_long_other lines) text lines scramble told
 of_none text lines scramble told none is = subst (λ b. IsDoubtBeside b text lines scramble told) none is

@@ -1,5 +1,5 @@
 -- The room for a step and what stands after it, and what is told of both.
-use Rattle.std.proofs.Common.{◌≡◌, ◌⊎◌, ℕ, ◌+◌, ◌-◌, ◌*◌, ◌<◌, ◌≤◌, Bool, true, min, Option, None, Some, IfSome, List, [], ◌∷◌, sym, subst, inl, inr, arith}
+use Rattle.std.proofs.Common.{◌≡◌, ◌⊎◌, ℕ, ◌+◌, ◌-◌, ◌*◌, ◌<◌, ◌≤◌, Bool, true, min, Result, Ok, Err, IfOk, List, [], ◌∷◌, sym, subst, inl, inr, arith}
 use Rattle.std.specs.List.{list_any}
 use Rattle.std.proofs.Math.Nat.{min-le_left, min-eq_left, min-eq_right}
 use Rattle.std.proofs.lemmas.Bool.{cases_lt}
@@ -10,6 +10,7 @@ use Rattle.niss_text.specs.declared.text_line.TextLine.{TextLine}
 use Rattle.niss_embed.specs.Another.{IsSolvedBy}
 use Rattle.niss_embed.specs.Doubts.{AreWritten}
 use Rattle.niss_embed.specs.InnerAttempt.{IsBegunIn, IsUndoneIfAny}
+use Rattle.niss_embed.specs.declared.written.NoRoom.{NoRoom}
 
 -- what is below both is below the less
 pub at_least : (a b c : ℕ) → c ≤ a → c ≤ b → c ≤ min a b
@@ -49,11 +50,11 @@ unfolding most_bytes
 most_parted line rest = omega arith
 
 -- what is told of a line that has some of the solution after it
-pub begun_if : (text : List ℕ) (lines : List TextLine) (line : TextLine) (rest : List TextLine) (scramble places : List ℕ) (result : Option Bool) →
+pub begun_if : (text : List ℕ) (lines : List TextLine) (line : TextLine) (rest : List TextLine) (scramble places : List ℕ) (result : Result Bool NoRoom) →
     lines ≡ line ∷ rest → list_any (is_wanted Solution) rest ≡ true → AreWritten text EachStep (line ∷ []) scramble places →
-    IfSome result (λ solves. IsSolvedBy text rest scramble solves) → IfSome result (λ solves. IsBegunIn text lines solves)
-begun_if text lines line rest scramble places None are some written is = is
-begun_if text lines line rest scramble places (Some solves) are some written is =
+    IfOk result (λ solves. IsSolvedBy text rest scramble solves) → IfOk result (λ solves. IsBegunIn text lines solves)
+begun_if text lines line rest scramble places (Err why) are some written is = is
+begun_if text lines line rest scramble places (Ok solves) are some written is =
     subst (λ (these : List TextLine). IsBegunIn text these solves) (sym are)
     (subst (λ (b : Bool). IsUndoneIfAny b text line rest solves) (sym some)
     (record { scramble = scramble; places = places; is_scramble = written; is_solved = is }))

@@ -1,11 +1,9 @@
 -- Where a turn is said in a comment, of which turn something is told first, and how its bytes are read.
-use Rattle.std.proofs.Common.{◌≡◌, ◌∙◌, ◌⊎◌, ℕ, suc, ◌+◌, ◌-◌, ◌<◌, ◌≤◌, ◌==◌, Bool, false, cond, List, [], ◌∷◌, Option, None, Some, Result, refl, map, ap, subst, inl, inr, arith}
+use Rattle.std.proofs.Common.{◌≡◌, ◌∙◌, ◌⊎◌, ℕ, suc, ◌+◌, ◌-◌, ◌<◌, ◌≤◌, Bool, false, cond, List, [], ◌∷◌, Option, None, Some, Result, refl, map, ap, subst, inl, inr, arith}
 use Rattle.std.specs.Prelude.{find}
 use Rattle.std.specs.List.{range_with_len}
-use Rattle.std.specs.Option.{unwrap_or}
 use Rattle.std.proofs.lemmas.Bool.{cases_lt}
-use Rattle.std.proofs.lemmas.Bool.Decides.{eqb_tells}
-use Rattle.niss_embed.specs.declared.attempts.Doubt.{Doubt}
+use Rattle.niss_embed.specs.declared.doubts.Doubt.{Doubt}
 use Rattle.niss_moves.specs.Facelets.{face_letter}
 use Rattle.niss_moves.specs.declared.turn.Face.{Face}
 use Rattle.niss_moves.specs.declared.turn.Face.TheVariants.{U, D, R, L, F, B}
@@ -13,9 +11,7 @@ use Rattle.niss_moves.specs.declared.turn.Power.{Power}
 use Rattle.niss_moves.specs.declared.turn.Power.TheVariants.{Quarter, Half, Counter}
 use Rattle.niss_moves.specs.declared.turn.Turn.{Turn}
 use Rattle.niss_text.specs.declared.text_line.TextLine.{TextLine}
-use Rattle.niss_embed.specs.declared.parts.PartAnswer.{PartAnswer}
 use Rattle.niss_embed.specs.declared.step_reading.Reading.TheVariants.{AsWritten}
-use Rattle.niss_embed.specs.Attempts.{IsPartOrLost, doubt_of_part, no_doubt}
 use Rattle.niss_embed.specs.DeadSteps.{Rests}
 use Rattle.niss_embed.specs.Parts.{read_byte}
 use Rattle.niss_embed.specs.LostTurn.{IsLostAt}
@@ -23,7 +19,6 @@ use Rattle.niss_embed.specs.ShownTurn.{IsBorder, shown_at, shown_between, suffix
 use Rattle.niss_embed.specs.declared.shown_turn.Border.{Border}
 use Rattle.niss_moves.specs.Line.{Moves}
 use Rattle.niss_moves.specs.declared.fault.ReadFault.{ReadFault}
-use Rattle.niss_embed.specs.WholeDoubt.{IsWholeDoubt}
 use Rattle.niss_embed.proofs.DeadLemmas.{rests_blank}
 
 -- the first place from one on is none that fails
@@ -49,27 +44,14 @@ none_more Told n none not = one_more (λ j. Told j None) n none not
 
 -- what is told at a border is told before the step of its number
 pub border_told : (scramble : Result Moves ReadFault) (steps bounds text : List ℕ) (lines : List TextLine) (k : ℕ) (border : Border) (told : Option Doubt) →
-    IsLostAt scramble steps bounds border.number (shown_between border.text.now border.behind border.before border.has_one_sign) told → IsBorder text lines k border →
+    IsLostAt scramble steps bounds border.number (shown_between border.text.now border.above border.below border.has_one_sign) told → IsBorder text lines k border →
     IsLostAt scramble steps bounds k (shown_at text lines k) told
 border_told scramble steps bounds text lines k border told lost is =
     subst (λ (n : ℕ). IsLostAt scramble steps bounds n (shown_at text lines k) told) is.number_is
     (subst (λ (shows : Turn → Option Doubt). IsLostAt scramble steps bounds border.number shows told) shows lost)
   where
-    shows : shown_between border.text.now border.behind border.before border.has_one_sign ≡ shown_at text lines k
-    shows = λ i. shown_between (is.text_is i) (is.behind_is i) (is.before_is i) (is.one_is i)
-
--- the doubt that a part solves, or else that a turn was lost, the cube turned, or a step moved
-pub part_told : (part : PartAnswer) (scramble steps places text : List ℕ) (lines : List TextLine) (told : Doubt) → (part.how ≡ 0 → ⊥) → told ≡ doubt_of_part part places →
-    IsPartOrLost (part.how == 0) part scramble steps places text lines told
-part_told part scramble steps places text lines told some is = elim (eqb_tells part.how 0) [
-  | inl w ↦ absurd (some w.1)
-  | inr w ↦ rw w.0 is
-]
-
-pub lost_told : (part : PartAnswer) (scramble steps places text : List ℕ) (lines : List TextLine) (told none : Doubt) (lost : Option Doubt) → part.how ≡ 0 →
-    IsWholeDoubt scramble steps text lines lost → told ≡ unwrap_or lost none → none ≡ no_doubt → IsPartOrLost (part.how == 0) part scramble steps places text lines told
-lost_told part scramble steps places text lines told none lost nothing is told_is none_is =
-    rw nothing (lost, is, told_is ∙ ap (unwrap_or lost) none_is)
+    shows : shown_between border.text.now border.above border.below border.has_one_sign ≡ shown_at text lines k
+    shows = λ i. shown_between (is.text_is i) (is.above_is i) (is.below_is i) (is.one_is i)
 
 -- The bytes of a turn are read as they are, and no move goes on from them.
 letter_read : (f : Face) → read_byte AsWritten (face_letter f) ≡ face_letter f

@@ -11,13 +11,13 @@ pub record HasLast (xs : List Turn) : Type 0 where
   pub last : Turn
   pub is : xs ≡ front ++ last ∷ []
 
-last_behind : (x : Turn) (xs : List Turn) → (xs ≡ []) ⊎ HasLast xs → HasLast (x ∷ xs)
-last_behind x xs (inl none) = record { front = []; last = x; is = ap (λ ys. x ∷ ys) none }
-last_behind x xs (inr it) = record { front = x ∷ it.front; last = it.last; is = ap (λ ys. x ∷ ys) it.is }
+last_after : (x : Turn) (xs : List Turn) → (xs ≡ []) ⊎ HasLast xs → HasLast (x ∷ xs)
+last_after x xs (inl none) = record { front = []; last = x; is = ap (λ ys. x ∷ ys) none }
+last_after x xs (inr it) = record { front = x ∷ it.front; last = it.last; is = ap (λ ys. x ∷ ys) it.is }
 
 pub has_last : (xs : List Turn) → (xs ≡ []) ⊎ HasLast xs
 has_last [] = inl refl
-has_last (x ∷ xs) = inr (last_behind x xs (has_last xs))
+has_last (x ∷ xs) = inr (last_after x xs (has_last xs))
 
 abbrev rest_of : List Turn → List Turn
 rest_of [] = []
@@ -63,8 +63,8 @@ near_parts turn rest other_rest [] [] [] after one other few few_others =
     record { before = []; own = []; others = []; after = rest; one_is = refl; other_is = ap rest_of (other ∙ sym one); few = few; few_others = few_others }
 
 -- a turn with which both begin changes nothing
-pub near_behind : (turn : Turn) (rest other_rest : List Turn) → AreNear (turn ∷ rest) (turn ∷ other_rest) → AreNear rest other_rest
-near_behind turn rest other_rest it = near_parts turn rest other_rest it.before it.own it.others it.after it.one_is it.other_is it.few it.few_others
+pub near_after : (turn : Turn) (rest other_rest : List Turn) → AreNear (turn ∷ rest) (turn ∷ other_rest) → AreNear rest other_rest
+near_after turn rest other_rest it = near_parts turn rest other_rest it.before it.own it.others it.after it.one_is it.other_is it.few it.few_others
 
 pub near_before : (turn : Turn) (rest other_rest : List Turn) → AreNear rest other_rest → AreNear (turn ∷ rest) (turn ∷ other_rest)
 near_before turn rest other_rest it = record {
@@ -165,12 +165,12 @@ begin_of_few one other few few_others =
     record { own = one; others = other; after = []; one_is = sym (append-nil one); other_is = sym (append-nil other); few = few; few_others = few_others }
 
 -- the steps of both loops, and their ends
-pub near_step : (one other rest other_rest behind other_behind : List Turn) → (turn : Turn) × (rest ≡ turn ∷ behind) × (other_rest ≡ turn ∷ other_behind) →
-    (AreNear rest other_rest ↔ AreNear one other) → AreNear behind other_behind ↔ AreNear one other
-near_step one other rest other_rest behind other_behind (turn, is, other_is) same =
-    let so : AreNear (turn ∷ behind) (turn ∷ other_behind) ↔ AreNear one other =
-    subst (λ xs. AreNear (turn ∷ behind) xs ↔ AreNear one other) other_is (subst (λ xs. AreNear xs other_rest ↔ AreNear one other) is same) in
-    (λ near. so.0 (near_before turn behind other_behind near), λ near. near_behind turn behind other_behind (so.1 near))
+pub near_step : (one other rest other_rest after other_after : List Turn) → (turn : Turn) × (rest ≡ turn ∷ after) × (other_rest ≡ turn ∷ other_after) →
+    (AreNear rest other_rest ↔ AreNear one other) → AreNear after other_after ↔ AreNear one other
+near_step one other rest other_rest after other_after (turn, is, other_is) same =
+    let so : AreNear (turn ∷ after) (turn ∷ other_after) ↔ AreNear one other =
+    subst (λ xs. AreNear (turn ∷ after) xs ↔ AreNear one other) other_is (subst (λ xs. AreNear xs other_rest ↔ AreNear one other) is same) in
+    (λ near. so.0 (near_before turn after other_after near), λ near. near_after turn after other_after (so.1 near))
 
 pub near_end : (result : Bool) (one other rest other_rest : List Turn) → (BeginSame rest other_rest → ⊥) → (AreNear rest other_rest ↔ AreNear one other) →
     (IsTrue result ↔ AreNearAtBegin rest other_rest) → IsTrue result ↔ AreNear one other

@@ -142,32 +142,32 @@ no_how solving one two three LeftOut = two
 no_how solving one two three InBrackets = three
 
 -- a part is what is done with some steps
-same_part : (q : Part) (first behind : ℕ) → q.first ≡ first → q.behind ≡ behind → part q.how first behind ≡ q
-same_part q first behind e f = sym (λ i. record { how = q.how; first = e i; behind = f i })
+same_part : (q : Part) (first end : ℕ) → q.first ≡ first → q.end ≡ end → part q.how first end ≡ q
+same_part q first end e f = sym (λ i. record { how = q.how; first = e i; end = f i })
 
 -- no part that begins with a step and ends before another solves
-abbrev pub NoneFrom : (Part → Bool) → (first behind : ℕ) → Type 0
-NoneFrom solving first behind = (q : Part) → q.first ≡ first → q.first < q.behind → q.behind < behind → solving q ≡ false
+abbrev pub NoneFrom : (Part → Bool) → (first end : ℕ) → Type 0
+NoneFrom solving first end = (q : Part) → q.first ≡ first → q.first < q.end → q.end < end → solving q ≡ false
 
-pub from_more : (solving : Part → Bool) (first behind : ℕ) → NoneFrom solving first behind → IsHow (λ how. solving (part how first behind)) None →
-    NoneFrom solving first (behind + 1)
-from_more solving first behind none how q same some near = last (cases_lt q.behind behind)
+pub from_more : (solving : Part → Bool) (first end : ℕ) → NoneFrom solving first end → IsHow (λ how. solving (part how first end)) None →
+    NoneFrom solving first (end + 1)
+from_more solving first end none how q same some near = last (cases_lt q.end end)
   where
-    last : (q.behind < behind) ⊎ (behind ≤ q.behind) → solving q ≡ false
+    last : (q.end < end) ⊎ (end ≤ q.end) → solving q ≡ false
     last (inl less) = none q same some less
-    last (inr not) = ap solving (sym (same_part q first behind same (omega arith))) ∙ how q.how
+    last (inr not) = ap solving (sym (same_part q first end same (omega arith))) ∙ how q.how
 
-pub from_found : (solving : Part → Bool) (steps first behind : ℕ) (how : How) → first < behind → behind ≤ steps → NoneFrom solving first behind →
-    IsHow (λ h. solving (part h first behind)) (Some how) → IsFirstFrom steps solving first (Some (part how first behind))
-from_found solving steps first behind how some within none is = (refl, (some, within), is.0, λ q among same before. earlier q among.0 same before)
+pub from_found : (solving : Part → Bool) (steps first end : ℕ) (how : How) → first < end → end ≤ steps → NoneFrom solving first end →
+    IsHow (λ h. solving (part h first end)) (Some how) → IsFirstFrom steps solving first (Some (part how first end))
+from_found solving steps first end how some within none is = (refl, (some, within), is.0, λ q among same before. earlier q among.0 same before)
   where
-    earlier : (q : Part) → q.first < q.behind → q.first ≡ first → IsBefore q (part how first behind) → solving q ≡ false
+    earlier : (q : Part) → q.first < q.end → q.first ≡ first → IsBefore q (part how first end) → solving q ≡ false
     earlier q has same (inl less) = absurd (omega arith)
     earlier q has same (inr (e, inl less)) = none q same has less
-    earlier q has same (inr (e, inr (f, less))) = ap solving (sym (same_part q first behind same f)) ∙ is.1 q.how less
+    earlier q has same (inr (e, inr (f, less))) = ap solving (sym (same_part q first end same f)) ∙ is.1 q.how less
 
-pub from_none : (solving : Part → Bool) (steps first behind : ℕ) → steps < behind → NoneFrom solving first behind → IsFirstFrom steps solving first None
-from_none solving steps first behind all none q among same = none q same among.0 (omega (arith, among.1))
+pub from_none : (solving : Part → Bool) (steps first end : ℕ) → steps < end → NoneFrom solving first end → IsFirstFrom steps solving first None
+from_none solving steps first end all none q among same = none q same among.0 (omega (arith, among.1))
 
 -- no part that begins before a step solves
 abbrev pub NoneBefore : ℕ → (Part → Bool) → ℕ → Type 0

@@ -6,7 +6,7 @@ use Rattle.niss_moves.specs.declared.turn.Face.{Face}
 use Rattle.niss_moves.specs.declared.turn.Face.TheVariants.{U, D, R, L, F, B}
 use Rattle.niss_text.specs.declared.text_line.TextLine.{TextLine}
 use Rattle.niss_embed.proofs.CornerLines.{or_left, or_right}
-use Rattle.niss_embed.specs.ShownTurn.{is_apart, is_face_letter, is_letter_of, step_at, step_behind}
+use Rattle.niss_embed.specs.ShownTurn.{is_apart, is_face_letter, is_letter_of, step_at, step_above}
 unfoldable use Rattle.niss_embed.specs.ShownTurn.{stands_at}
 
 -- whether the letter of one of the faces stands there
@@ -51,7 +51,7 @@ first_dropped (x ∷ xs) zero = refl
 first_dropped (x ∷ xs) (suc k) = first_dropped xs k
 
 -- the step behind which the next one stands
-pub behind_next : (lines : List TextLine) (k : ℕ) → step_behind lines (k + 1) ≡ step_at lines k
-behind_next lines k =
+pub above_next : (lines : List TextLine) (k : ℕ) → step_above lines (k + 1) ≡ step_at lines k
+above_next lines k =
     let one : k + 1 ≡ suc k = omega arith in
-    ap (step_behind lines) one
+    ap (step_above lines) one

@@ -213,14 +213,14 @@ steps_stay_dead text bounds a b c parted up ab bc l = by_order (cases_lt (b + 1)
         stays_dead (steps_line text bounds a b) (steps_line text bounds b c) (inr (ap (steps_line text bounds b) end ∙ steps_none text bounds b))
 
 -- the steps before some, of all after them
-pub before_parted : (text bounds : List ℕ) (first behind : ℕ) → AreParted text bounds → Ascends bounds → first ≤ behind → behind < length bounds →
-    IsParted (steps_line text bounds 0 first) (steps_line text bounds first behind ++ steps_line text bounds behind (length bounds - 1))
-before_parted text bounds first behind parted up ordered l =
+pub before_parted : (text bounds : List ℕ) (first end : ℕ) → AreParted text bounds → Ascends bounds → first ≤ end → end < length bounds →
+    IsParted (steps_line text bounds 0 first) (steps_line text bounds first end ++ steps_line text bounds end (length bounds - 1))
+before_parted text bounds first end parted up ordered l =
     let last : ℕ = length bounds - 1 in
-    let own : slice_index bounds first ≤ slice_index bounds behind = ascends_between bounds first behind up ordered l in
-    let rest : slice_index bounds behind ≤ slice_index bounds last = ascends_between bounds behind last up (omega (arith, l)) (omega (arith, l)) in
+    let own : slice_index bounds first ≤ slice_index bounds end = ascends_between bounds first end up ordered l in
+    let rest : slice_index bounds end ≤ slice_index bounds last = ascends_between bounds end last up (omega (arith, l)) (omega (arith, l)) in
     subst (IsParted (steps_line text bounds 0 first))
-    (sym (joined_steps text (slice_index bounds first) (slice_index bounds behind) (slice_index bounds last) own rest))
+    (sym (joined_steps text (slice_index bounds first) (slice_index bounds end) (slice_index bounds last) own rest))
     (steps_parted text bounds 0 first parted up (omega arith) (omega (arith, ordered, l)))
 
 -- a step without its brackets, of all after it

@@ -5,10 +5,10 @@ use Rattle.niss_cube.specs.declared.step.Step.TheVariants.{Eofb, Eorl, Eoud, Dru
 use Rattle.niss_cube.specs.declared.step.Step.TheVariants.{DrrlEoud, DrfbEoud, Eo, DrEofb, DrEorl, DrEoud}
 use Rattle.niss_cube.specs.Steps.{start_name_of}
 use Rattle.niss_shell.specs.Names.{Step}
-use Rattle.niss_embed.specs.LineCalls.{fault_text_of}
+use Rattle.niss_embed.specs.LineCalls.{enough_bytes, fault_text_of}
 
 abbrev HasRoom : Option (List ℕ) → Type 0
-HasRoom text = IfSome text (λ bytes. length bytes ≤ 2048)
+HasRoom text = IfSome text (λ bytes. length bytes ≤ enough_bytes)
 
 starts : (step : Step) → HasRoom (start_name_of step)
 starts Eofb = tt
@@ -35,8 +35,8 @@ faults (suc (suc (suc (suc (suc zero))))) = omega arith
 faults (suc (suc (suc (suc (suc (suc zero)))))) = omega arith
 faults (suc (suc (suc (suc (suc (suc (suc number))))))) = tt
 
-pub start_has_room : (step : Step) {bytes : List ℕ} → Some bytes ≡ start_name_of step → length bytes ≤ 2048
+pub start_has_room : (step : Step) {bytes : List ℕ} → Some bytes ≡ start_name_of step → length bytes ≤ enough_bytes
 start_has_room step e = subst HasRoom (sym e) (starts step)
 
-pub fault_has_room : (number : ℕ) {bytes : List ℕ} → Some bytes ≡ fault_text_of number → length bytes ≤ 2048
+pub fault_has_room : (number : ℕ) {bytes : List ℕ} → Some bytes ≡ fault_text_of number → length bytes ≤ enough_bytes
 fault_has_room number e = subst HasRoom (sym e) (faults number)

@@ -4,9 +4,10 @@ use Rattle.std.specs.List.{filter, list_any, range_with_len}
 use Rattle.niss_text.specs.Moves.{is_wanted}
 use Rattle.niss_text.specs.declared.moves.MovesOf.TheVariants.{Solution}
 use Rattle.niss_text.specs.declared.text_line.TextLine.{TextLine}
-use Rattle.niss_embed.specs.Doubts.{AreWritten, doubt, no_doubt}
+use Rattle.niss_embed.specs.Doubts.{AreWritten, doubt}
 use Rattle.niss_embed.specs.LineFacts.{check_of}
-use Rattle.niss_embed.specs.declared.attempts.Doubt.{Doubt}
+use Rattle.niss_embed.specs.declared.doubts.Doubt.{Doubt}
+use Rattle.niss_embed.specs.declared.doubts.Reason.TheVariants.{AnotherAttempt}
 
 -- The moves of a line have twenty bytes at least, as those of a short scramble.
 abbrev pub is_long : TextLine → Bool
@@ -24,9 +25,13 @@ may_begin lines k = list_any is_long_step (slice_range lines k (k + 1)) && list_
 abbrev pub count_before : (ℕ → Bool) → ℕ → ℕ
 count_before is_so k = length (filter is_so (range_with_len 0 k))
 
--- A number is tried: it is one of the first twelve that are so.
+-- how many lines are tried
+abbrev pub most_lines_tried : ℕ
+most_lines_tried = 12
+
+-- A number is tried: it is one of the first so many that are so.
 abbrev pub IsTried : (ℕ → Bool) → ℕ → Type 0
-IsTried is_so k = (is_so k ≡ true) × (count_before is_so k < 12)
+IsTried is_so k = (is_so k ≡ true) × (count_before is_so k < most_lines_tried)
 
 -- Of the numbers below a bound that are tried this is the first that holds, if one does.
 abbrev pub IsFirstTried : (bound : ℕ) → (is_so : ℕ → Bool) → (Holds : ℕ → Bool → Type 0) → Option ℕ → Type 0
@@ -42,17 +47,21 @@ pub record IsSolvedBy (text : List ℕ) (lines : List TextLine) (scramble : List
   pub solves_is : solves ≡ (check_of scramble solution).solved
 
 -- the doubt that another attempt begins in the first of some lines
-abbrev pub begun_in : List TextLine → Doubt
-begun_in [] = no_doubt
-begun_in (line ∷ lines) = doubt 13 line.moves
+abbrev pub begun_in : List TextLine → Option Doubt
+begun_in [] = None
+begun_in (line ∷ lines) = Some (doubt AnotherAttempt line.moves)
 
 -- the same in the line of a number, if there is one
-abbrev pub begun_at : List TextLine → Option ℕ → Doubt
-begun_at lines None = no_doubt
+abbrev pub begun_at : List TextLine → Option ℕ → Option Doubt
+begun_at lines None = None
 begun_at lines (Some k) = begun_in (drop k lines)
 
--- What is solved is in doubt by the first line in which another attempt may begin, and before which all solves; or by none.
-pub record IsBegunAgain (text : List ℕ) (lines : List TextLine) (scramble : List ℕ) (told : Doubt) : Type 0 where
+-- The doubt is that another attempt begins in the first of the lines that are tried of which this holds, or there is none.
+pub record IsBegun (lines : List TextLine) (may_begin : ℕ → Bool) (Holds : ℕ → Bool → Type 0) (told : Option Doubt) : Type 0 where
   pub first : Option ℕ
-  pub is_first : IsFirstTried (length lines) (may_begin lines) (λ k solves. IsSolvedBy text (take k lines) scramble solves) first
+  pub is_first : IsFirstTried (length lines) may_begin Holds first
   pub told_is : told ≡ begun_at lines first
+
+-- What is solved is in doubt by the first line in which another attempt may begin, and before which all solves; or by none.
+abbrev pub IsBegunAgain : (text : List ℕ) (lines : List TextLine) (scramble : List ℕ) (told : Option Doubt) → Type 0
+IsBegunAgain text lines scramble told = IsBegun lines (may_begin lines) (λ k solves. IsSolvedBy text (take k lines) scramble solves) told

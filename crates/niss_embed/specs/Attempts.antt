@@ -1,11 +1,11 @@
 -- What is told of attempts that were checked.
-use Rattle.std.specs.Prelude.{◌≡◌, ℕ, zero, suc, ◌+◌, ◌-◌, ◌<◌, ◌==◌, if◌then◌else◌, nat_lt, Bool, true, false, not, ◌&&◌, ⊤, ◌≤◌, ◌↔◌, IsTrue, Ok, min, Option, List, [], ◌∷◌, length, drop, get_or, slice_range}
+use Rattle.std.specs.Prelude.{◌≡◌, ℕ, zero, suc, ◌+◌, ◌-◌, ◌<◌, ◌==◌, if◌then◌else◌, nat_lt, Bool, true, false, not, ◌&&◌, ⊤, ◌≤◌, ◌↔◌, IsTrue, Ok, min, Option, None, Some, is_some, List, [], ◌∷◌, length, drop, get_or, slice_range}
 use Rattle.std.specs.List.{list_any, range_with_len}
-use Rattle.std.specs.Option.{unwrap_or}
+use Rattle.std.specs.Option.{option_or}
 use Rattle.niss_text.specs.Moves.{is_wanted}
 use Rattle.niss_text.specs.declared.moves.MovesOf.TheVariants.{Scramble, Solution, EachStep}
 use Rattle.niss_text.specs.declared.text_line.TextLine.{TextLine}
-pub use Rattle.niss_embed.specs.Doubts.{AreWritten, doubt, no_doubt, no_place, or_else}
+pub use Rattle.niss_embed.specs.Doubts.{AreWritten, IsOrElse, OrElse, doubt, no_place, number_if, number_of, place_of}
 use Rattle.niss_embed.specs.Another.{IsBegunAgain}
 use Rattle.niss_embed.specs.Beside.{IsDoubtBeside, is_long_other}
 use Rattle.niss_embed.specs.InnerAttempt.{IsBegunWithin}
@@ -27,16 +27,23 @@ use Rattle.niss_shell.specs.Words.{most_bytes}
 use Rattle.niss_shell.specs.declared.command.Rewriting.TheVariants.{Print}
 use Rattle.niss_embed.specs.LineFacts.{unchecked}
 use Rattle.niss_embed.specs.declared.answer.Status.TheVariants.{Done}
-use Rattle.niss_embed.specs.declared.attempts.Doubt.{Doubt}
+use Rattle.niss_embed.specs.declared.doubts.Doubt.{Doubt}
+use Rattle.niss_embed.specs.declared.doubts.Reason.TheVariants.{OfLine, AnotherScramble, Part, WhichScramble, StepOrScramble, AnotherAttempt}
 use Rattle.niss_embed.specs.declared.told.Told.{Told}
 use Rattle.niss_embed.specs.declared.fact_answers.CheckAnswer.{CheckAnswer}
 use Rattle.niss_embed.specs.declared.parts.PartAnswer.{PartAnswer}
 use Rattle.niss_embed.specs.declared.runs.Run.{Run}
 
 -- what makes one doubt the first of some lines that is in doubt
-abbrev pub first_doubt : List TextLine → Doubt
-first_doubt [] = no_doubt
-first_doubt (line ∷ lines) = if line.doubt == 0 then first_doubt lines else doubt line.doubt line.doubt_at
+abbrev pub first_doubt : List TextLine → Option Doubt
+first_doubt [] = None
+first_doubt (line ∷ lines) = if line.doubt == 0 then first_doubt lines else Some (doubt (OfLine line.doubt) line.doubt_at)
+
+-- the doubt of the first of them that may be of a scramble
+abbrev pub first_stray : List TextLine → Option Doubt
+first_stray [] = None
+first_stray (line ∷ lines) =
+    if line.doubt == number_of StepOrScramble then Some (doubt StepOrScramble line.doubt_at) else first_stray lines
 
 -- a scramble whose bytes have places in the text is solved by itself
 abbrev pub is_solved : (scramble places : List ℕ) → Bool
@@ -54,87 +61,72 @@ outcome_of has_solution check =
     if not (check.status == 0) then AtFault else (if has_solution && check.solved then Solved else Unsolved)
 
 -- the doubt that a part solves which begins at a byte of the steps, of the place of that
-abbrev pub doubt_of_part : PartAnswer → (places : List ℕ) → Doubt
-doubt_of_part part places = if part.how == 0 then no_doubt else doubt 9 (get_or places part.begin no_place)
+abbrev pub doubt_of_part : PartAnswer → (places : List ℕ) → Option Doubt
+doubt_of_part part places = if part.how == 0 then None else Some (doubt Part (get_or places part.begin no_place))
 
--- The doubt is that a part of the steps solves, or if none does, that a turn was lost, the cube turned, or a step moved.
-abbrev pub IsPartOrLost : (is_none : Bool) → PartAnswer → (scramble steps places text : List ℕ) (lines : List TextLine) (told : Doubt) → Type 0
-IsPartOrLost false part scramble steps places text lines told = told ≡ doubt_of_part part places
-IsPartOrLost true part scramble steps places text lines told =
-    (whole : Option Doubt) × IsWholeDoubt scramble steps text lines whole × (told ≡ unwrap_or whole no_doubt)
-
--- A part of the steps solves, or all of them with a turn or a rotation, or none, and that is the doubt.
-pub record IsDoubtOfSteps (text : List ℕ) (lines : List TextLine) (scramble : List ℕ) (told : Doubt) : Type 0 where
+-- A part of the steps solves, and that is the doubt, or if none does, that a turn was lost, the cube turned, or a step moved.
+pub record IsDoubtOfSteps (text : List ℕ) (lines : List TextLine) (scramble : List ℕ) (told : Option Doubt) : Type 0 where
   pub steps : List ℕ
   pub places : List ℕ
   pub part : PartAnswer
   pub are_steps : AreWritten text EachStep lines steps places
   pub tells : TellsPart scramble steps part
-  pub told_is : IsPartOrLost (part.how == 0) part scramble steps places text lines told
+  pub told_is : IsOrElse (doubt_of_part part places) (λ it. IsWholeDoubt scramble steps text lines it) told
 
--- The doubt is that of the steps, or if there is none, that another attempt stands in them.
-abbrev pub IsStepsOrWithin : (is_none : Bool) → (of_steps : Doubt) → (text : List ℕ) (lines : List TextLine) (told : Doubt) → Type 0
-IsStepsOrWithin false of_steps text lines told = told ≡ of_steps
-IsStepsOrWithin true of_steps text lines told = IsBegunWithin text lines told
-
--- What isn't solved, nor is its scramble, is in doubt by its steps so.
-pub record IsDoubtWithin (text : List ℕ) (lines : List TextLine) (scramble : List ℕ) (told : Doubt) : Type 0 where
-  pub of_steps : Doubt
-  pub is_of_steps : IsDoubtOfSteps text lines scramble of_steps
-  pub told_is : IsStepsOrWithin (of_steps.reason == 0) of_steps text lines told
-
--- What isn't solved is in doubt by its scramble if that is solved by itself, else by its steps.
-abbrev pub IsDoubtOfUnsolved : (is_solved : Bool) → (text : List ℕ) (lines : List TextLine) (scramble places : List ℕ) (told : Doubt) → Type 0
-IsDoubtOfUnsolved true text lines scramble places told = told ≡ doubt 1 (get_or places 0 no_place)
-IsDoubtOfUnsolved false text lines scramble places told = IsDoubtWithin text lines scramble told
+-- What isn't solved is in doubt by its scramble if that is solved by itself, else by its steps, else by another attempt that
+-- stands in these.
+abbrev pub IsDoubtOfUnsolved : (is_solved : Bool) → (text : List ℕ) (lines : List TextLine) (scramble places : List ℕ) (told : Option Doubt) → Type 0
+IsDoubtOfUnsolved true text lines scramble places told = told ≡ Some (doubt AnotherScramble (get_or places 0 no_place))
+IsDoubtOfUnsolved false text lines scramble places told =
+    OrElse (λ it. IsDoubtOfSteps text lines scramble it) (λ it. IsBegunWithin text lines it) told
 
 -- What is solved is in doubt if its scramble is by itself, or what stands before another attempt.
-abbrev pub IsDoubtOfSolved : (is_solved : Bool) → (text : List ℕ) (lines : List TextLine) (scramble places : List ℕ) (told : Doubt) → Type 0
-IsDoubtOfSolved true text lines scramble places told = told ≡ doubt 13 (get_or places 0 no_place)
+abbrev pub IsDoubtOfSolved : (is_solved : Bool) → (text : List ℕ) (lines : List TextLine) (scramble places : List ℕ) (told : Option Doubt) → Type 0
+IsDoubtOfSolved true text lines scramble places told = told ≡ Some (doubt AnotherAttempt (get_or places 0 no_place))
 IsDoubtOfSolved false text lines scramble places told = IsBegunAgain text lines scramble told
 
--- the doubt of the first of some lines that may be of a scramble
-abbrev pub first_stray : List TextLine → Doubt
-first_stray [] = no_doubt
-first_stray (line ∷ lines) = if line.doubt == 11 then doubt 11 line.doubt_at else first_stray lines
+-- The same, or else steps make one doubt it that aren't of its solution.
+abbrev pub IsOfRest : (text : List ℕ) (lines : List TextLine) (scramble places : List ℕ) (told : Option Doubt) → Type 0
+IsOfRest text lines scramble places told =
+    OrElse (λ it. IsDoubtOfSolved (is_solved scramble places) text lines scramble places it)
+    (λ it. IsDoubtBeside (list_any is_long_other lines) text lines scramble it) told
+
+-- Of what is solved a line may be of a scramble, or else the same.
+abbrev pub IsDoubtThoughSolved : (text : List ℕ) (lines : List TextLine) (scramble places : List ℕ) (told : Option Doubt) → Type 0
+IsDoubtThoughSolved text lines scramble places told = IsOrElse (first_stray lines) (λ it. IsOfRest text lines scramble places it) told
 
 -- a doubt, which counts or not
-abbrev pub told : Doubt → (counts : Bool) → Told
+abbrev pub told : Option Doubt → (counts : Bool) → Told
 told doubt counts = record { doubt = doubt; counts = counts }
 
 -- What is found of what is solved counts. If nothing is, the doubt is that of its reading.
-abbrev pub told_of_solved : (found read : Doubt) → Told
-told_of_solved found read = told (or_else found read) (not (found.reason == 0))
-
--- Of what is solved a line may be of a scramble; or else another attempt may begin; or else steps make one doubt it that
--- aren't of its solution. Only then these are looked at.
-pub record IsDoubtThoughSolved (text : List ℕ) (lines : List TextLine) (scramble places : List ℕ) (read : Doubt) (it : Told) : Type 0 where
-  pub another : Doubt
-  pub is_another : IsDoubtOfSolved (is_solved scramble places) text lines scramble places another
-  pub beside : Doubt
-  pub is_beside : (or_else (first_stray lines) another).reason ≡ 0 → IsDoubtBeside (list_any is_long_other lines) text lines scramble beside
-  pub it_is : it ≡ told_of_solved (or_else (or_else (first_stray lines) another) beside) read
+abbrev pub told_of_solved : (found read : Option Doubt) → Told
+told_of_solved found read = told (option_or found read) (is_some found)
 
 -- The doubt is that of the reading, or if there is none, one of what isn't solved; of what is solved one that counts, if
 -- there is one. None counts of what is at fault.
-abbrev pub IsDoubt : (is_none : Bool) → Outcome → (text : List ℕ) (lines : List TextLine) (scramble places : List ℕ) (read : Doubt) (it : Told) → Type 0
-IsDoubt is_none AtFault text lines scramble places read it = it ≡ told read false
-IsDoubt is_none Solved text lines scramble places read it = IsDoubtThoughSolved text lines scramble places read it
-IsDoubt false Unsolved text lines scramble places read it = it ≡ told read true
-IsDoubt true Unsolved text lines scramble places read it =
-    (it.counts ≡ not (it.doubt.reason == 0)) × IsDoubtOfUnsolved (is_solved scramble places) text lines scramble places it.doubt
+abbrev pub IsDoubt : Outcome → (read : Option Doubt) → (text : List ℕ) (lines : List TextLine) (scramble places : List ℕ) (it : Told) → Type 0
+IsDoubt AtFault read text lines scramble places it = it ≡ told read false
+IsDoubt Solved read text lines scramble places it =
+    (found : Option Doubt) × IsDoubtThoughSolved text lines scramble places found × (it ≡ told_of_solved found read)
+IsDoubt Unsolved (Some read) text lines scramble places it = it ≡ told (Some read) true
+IsDoubt Unsolved None text lines scramble places it =
+    (it.counts ≡ is_some it.doubt) × IsDoubtOfUnsolved (is_solved scramble places) text lines scramble places it.doubt
 
 -- What is told of an attempt with these lines and this scramble, of which each byte has its place, and of whose reading
 -- this makes one doubt it.
-pub record IsChecked (text : List ℕ) (lines : List TextLine) (scramble places : List ℕ) (read : Doubt) (it : Judged) : Type 0 where
+pub record IsChecked (text : List ℕ) (lines : List TextLine) (scramble places : List ℕ) (read : Option Doubt) (it : Judged) : Type 0 where
   pub solution : List ℕ
   pub solution_places : List ℕ
   pub is_solution : AreWritten text Solution lines solution solution_places
   pub check_is : it.check ≡ check_of scramble solution
   pub fault_is : it.fault_at ≡ fault_place it.check places solution_places
   pub checked_is : it.is_checked ≡ list_any (is_wanted Solution) lines
-  pub doubt_is : IsDoubt (read.reason == 0) (outcome_of it.is_checked it.check) text lines scramble places read
-      (told (doubt it.doubt it.doubt_at) it.is_doubted)
+  pub verdict : Told
+  pub is_verdict : IsDoubt (outcome_of it.is_checked it.check) read text lines scramble places verdict
+  pub doubt_is : it.doubt ≡ number_if verdict.doubt
+  pub place_is : it.doubt_at ≡ place_of verdict.doubt
+  pub counts : it.is_doubted ≡ verdict.counts
 
 -- The same of an attempt whose scramble stands in its lines.
 pub record IsOwn (text : List ℕ) (lines : List TextLine) (it : Judged) : Type 0 where
@@ -230,12 +222,11 @@ elsewhere known begin = record { scrambles = known.scrambles.now; ends = known.e
 abbrev pub is_open : Judged → Bool
 is_open it = (it.is_checked && (it.doubt == 0)) && ((it.check.status == 0) && not it.check.solved)
 
-abbrev pub in_doubt : (reason at : ℕ) → Judged → Judged
-in_doubt reason at it =
-    record { fault_at = it.fault_at; doubt_at = at; doubt = reason; is_doubted = true; is_checked = it.is_checked; check = it.check }
+abbrev pub in_doubt : Doubt → Judged → Judged
+in_doubt told it = record it { doubt_at = told.at; doubt = number_of told.reason; is_doubted = true }
 
 abbrev pub or_which : (solves : Bool) → ℕ → Judged → Judged
-or_which true begin it = in_doubt 10 begin it
+or_which true begin it = in_doubt (doubt WhichScramble begin) it
 or_which false begin it = it
 
 -- What was judged is in doubt if the solution solves a known scramble.
@@ -251,7 +242,7 @@ IsTried true text own others judged it = IsOfSome text own others judged it
 IsTried false text own others judged it = it ≡ judged
 
 -- A scramble is solved, or not, by lines of its own, with this doubt of the reading; or they may solve another one.
-pub record IsAlone (text : List ℕ) (own : List TextLine) (lines : Run) (scramble : List ℕ) (others : Elsewhere) (read : Doubt) (it : Placed) : Type 0 where
+pub record IsAlone (text : List ℕ) (own : List TextLine) (lines : Run) (scramble : List ℕ) (others : Elsewhere) (read : Option Doubt) (it : Placed) : Type 0 where
   pub judged : Judged
   pub lines_are : it.lines ≡ lines
   pub is_checked : IsChecked text own scramble [] read judged
@@ -263,7 +254,7 @@ is_meant is_only found own = is_only && (found.is_same && not (list_any (is_want
 
 abbrev pub IsMeant : Bool → List ℕ → (own beside : List TextLine) → (lines run : Run) → (scramble : List ℕ) → Elsewhere → Found → Placed → Type 0
 IsMeant true text own beside lines run scramble others found it = IsOfRun text beside run it
-IsMeant false text own beside lines run scramble others found it = IsAlone text own lines scramble others (doubt 1 found.at) it
+IsMeant false text own beside lines run scramble others found it = IsAlone text own lines scramble others (Some (doubt AnotherScramble found.at)) it
 
 -- What is told of a known scramble by lines of its own, and an attempt among others that has a scramble, the only one or not.
 pub record IsBeside (text : List ℕ) (own beside : List TextLine) (lines : Run) (scramble : List ℕ) (others : Elsewhere) (run : Run) (is_only : Bool) (it : Placed)
@@ -289,7 +280,7 @@ pub record IsUnseen (part : KnownPart) (it : Placed) : Type 0 where
   pub lines : it.lines ≡ run_of part
   pub nothing : it.judged.check ≡ unchecked Done 0 0 0
   pub no_fault : it.judged.fault_at ≡ no_place
-  pub doubted : doubt it.judged.doubt it.judged.doubt_at ≡ doubt 10 part.begin
+  pub doubted : (it.judged.doubt ≡ number_of WhichScramble) × (it.judged.doubt_at ≡ part.begin)
   pub counts : (it.judged.is_doubted ≡ true) × (it.judged.is_checked ≡ false)
 
 -- the same number if it is below that many

@@ -7,14 +7,14 @@ use Rattle.niss_moves.specs.declared.turn.Power.{Power}
 use Rattle.niss_moves.specs.declared.turn.Power.TheVariants.{Quarter, Half, Counter}
 use Rattle.niss_moves.specs.declared.turn.Turn.{Turn}
 use Rattle.niss_text.specs.declared.text_line.TextLine.{TextLine}
-use Rattle.niss_embed.specs.Blanks.{is_blank, last_place, place_if}
+use Rattle.niss_embed.specs.Blanks.{is_blank, last_of_moves, place_if}
 
 -- The last byte of the moves of a line stands by itself: at their begin, or after a blank.
 abbrev pub is_bare_last : List ℕ → TextLine → ℕ → Bool
 is_bare_last text line at = (at == line.moves) || is_blank (slice_index text (at - 1))
 
 abbrev pub bare_last : List ℕ → TextLine → Option ℕ
-bare_last text line = place_if (is_bare_last text line) (last_place text line.moves line.comment)
+bare_last text line = place_if (is_bare_last text line) (last_of_moves text line)
 
 -- The first one does: it is the only one, or a blank follows.
 abbrev pub is_bare_first : List ℕ → TextLine → Bool
@@ -44,6 +44,6 @@ if_counter Counter place = place
 
 -- The place of the letter between two steps that a turn counterclockwise takes back: that with which the first one ends, else that
 -- with which the second one begins.
-abbrev pub letter_between : List ℕ → (behind before : Option TextLine) → Turn → Option ℕ
-letter_between text behind before t =
-    if_counter t.power (option_or (letter_if text t.face (bare_last_of text behind)) (letter_if text t.face (bare_first_of text before)))
+abbrev pub letter_between : List ℕ → (above below : Option TextLine) → Turn → Option ℕ
+letter_between text above below t =
+    if_counter t.power (option_or (letter_if text t.face (bare_last_of text above)) (letter_if text t.face (bare_first_of text below)))

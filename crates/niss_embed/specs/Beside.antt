@@ -1,6 +1,7 @@
 -- Steps beside the solution of an attempt that is solved: of another attempt, or the solution with a slip.
-use Rattle.std.specs.Prelude.{◌≡◌, ℕ, ◌-◌, ◌≤◌, ◌==◌, ◌&&◌, ◌↔◌, IsTrue, nat_le, nat_lt, if◌then◌else◌, Bool, true, false, not, Result, Ok, Err, List, [], ◌∷◌, ◌++◌, length, map}
+use Rattle.std.specs.Prelude.{◌≡◌, ℕ, ◌-◌, ◌≤◌, ◌==◌, ◌&&◌, ◌↔◌, IsTrue, nat_le, nat_lt, if◌then◌else◌, Bool, true, false, not, Option, None, Some, Result, Ok, Err, List, [], ◌∷◌, ◌++◌, length, map}
 use Rattle.std.specs.List.{All, filter}
+use Rattle.std.specs.Option.{option_or}
 use Rattle.niss_moves.specs.Cleaning.{clean_turns}
 use Rattle.niss_moves.specs.Line.{Moves, joined_moves}
 use Rattle.niss_moves.specs.Reader.{read_line}
@@ -12,9 +13,10 @@ use Rattle.niss_text.specs.Moves.{is_wanted}
 use Rattle.niss_text.specs.declared.moves.MovesOf.TheVariants.{Solution, EachStep}
 use Rattle.niss_text.specs.declared.text_line.TextLine.{TextLine}
 use Rattle.niss_shell.specs.Words.{most_bytes}
-use Rattle.niss_embed.specs.Doubts.{AreWritten, doubt, no_doubt, or_else}
+use Rattle.niss_embed.specs.Doubts.{AreWritten, doubt}
 use Rattle.niss_embed.specs.LineFacts.{IsReadAs}
-use Rattle.niss_embed.specs.declared.attempts.Doubt.{Doubt}
+use Rattle.niss_embed.specs.declared.doubts.Doubt.{Doubt}
+use Rattle.niss_embed.specs.declared.doubts.Reason.TheVariants.{AnotherAttempt, SeveralSolutions}
 use Rattle.niss_embed.specs.declared.beside.Beside.{Beside}
 use Rattle.niss_embed.specs.declared.beside.Seen.{Seen}
 
@@ -81,15 +83,15 @@ begins_apart [] = false
 begins_apart (step ∷ steps) = step.seen.is_apart
 
 -- the doubt that another attempt begins, in the first of two steps one after another that stand apart
-abbrev pub first_apart : List Step → Doubt
-first_apart [] = no_doubt
+abbrev pub first_apart : List Step → Option Doubt
+first_apart [] = None
 first_apart (step ∷ steps) =
-    if step.seen.is_apart && begins_apart steps then doubt 13 step.line.moves else first_apart steps
+    if step.seen.is_apart && begins_apart steps then Some (doubt AnotherAttempt step.line.moves) else first_apart steps
 
 -- the doubt that there are several solutions, in the first step that is the solution with a slip
-abbrev pub first_slip : List Step → Doubt
-first_slip [] = no_doubt
-first_slip (step ∷ steps) = if step.seen.is_slip then doubt 2 step.line.moves else first_slip steps
+abbrev pub first_slip : List Step → Option Doubt
+first_slip [] = None
+first_slip (step ∷ steps) = if step.seen.is_slip then Some (doubt SeveralSolutions step.line.moves) else first_slip steps
 
 -- What is found in the steps among some lines.
 pub record IsFound (text : List ℕ) (lines : List TextLine) (scramble : Moves) (solution : List Turn) (it : Beside) : Type 0 where
@@ -101,13 +103,13 @@ pub record IsFound (text : List ℕ) (lines : List TextLine) (scramble : Moves) 
   pub slip : it.slip ≡ first_slip steps
 
 -- The doubt is that of another attempt, or else that of a slip.
-pub record IsOfSteps (text : List ℕ) (lines : List TextLine) (scramble : Moves) (solution : List Turn) (told : Doubt) : Type 0 where
+pub record IsOfSteps (text : List ℕ) (lines : List TextLine) (scramble : Moves) (solution : List Turn) (told : Option Doubt) : Type 0 where
   pub it : Beside
   pub is_found : IsFound text lines scramble solution it
-  pub told_is : told ≡ or_else it.another it.slip
+  pub told_is : told ≡ option_or it.another it.slip
 
 -- It is told by scramble and solution as they are read, which those of an attempt are that is solved.
-pub record IsOfLong (text : List ℕ) (lines : List TextLine) (scramble : List ℕ) (told : Doubt) : Type 0 where
+pub record IsOfLong (text : List ℕ) (lines : List TextLine) (scramble : List ℕ) (told : Option Doubt) : Type 0 where
   pub solution : List ℕ
   pub places : List ℕ
   pub is_solution : AreWritten text Solution lines solution places
@@ -115,6 +117,6 @@ pub record IsOfLong (text : List ℕ) (lines : List TextLine) (scramble : List �
       IsOfSteps text lines given (turns_of moves) told
 
 -- What is solved is in doubt by its steps if one of them is long and not of the solution.
-abbrev pub IsDoubtBeside : (has_long : Bool) → (text : List ℕ) (lines : List TextLine) (scramble : List ℕ) (told : Doubt) → Type 0
+abbrev pub IsDoubtBeside : (has_long : Bool) → (text : List ℕ) (lines : List TextLine) (scramble : List ℕ) (told : Option Doubt) → Type 0
 IsDoubtBeside true text lines scramble told = IsOfLong text lines scramble told
-IsDoubtBeside false text lines scramble told = told ≡ no_doubt
+IsDoubtBeside false text lines scramble told = told ≡ None

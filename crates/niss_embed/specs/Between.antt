@@ -4,7 +4,7 @@ use Rattle.niss_moves.specs.Line.{Moves}
 use Rattle.niss_moves.specs.Reader.{read_line}
 use Rattle.niss_moves.specs.declared.fault.ReadFault.{ReadFault}
 use Rattle.niss_embed.specs.Corners.{AreBounds, IsAttempt}
-use Rattle.niss_embed.specs.Parts.{number_of_steps, solves_line, steps_line}
+use Rattle.niss_embed.specs.Parts.{number_of_steps, solves_line, steps_line, most_step_bytes, most_bounds}
 use Rattle.niss_embed.specs.declared.whole_steps.WholeSteps.{WholeSteps}
 
 -- all steps as a line, with bytes before the step of a number, or after the last one
@@ -16,7 +16,7 @@ solves_between scramble steps bounds k bytes = solves_line scramble (read_line (
 
 -- what is known of all steps, of where they begin and end, and of the corners
 pub record AreWhole (it : WholeSteps) : Type 0 where
-  pub few : (0 < length it.bounds.now) × (length it.bounds.now ≤ 13)
+  pub few : (0 < length it.bounds.now) × (length it.bounds.now ≤ most_bounds)
   pub are_bounds : AreBounds it.bounds.now
-  pub room : length it.steps.now ≤ 65536
+  pub room : length it.steps.now ≤ most_step_bytes
   pub corners : IsAttempt it.corners.now it.scramble.now it.steps.now it.bounds.now

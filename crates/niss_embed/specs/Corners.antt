@@ -130,11 +130,11 @@ pub record IsAround (around : Around) (before own after : List ℕ) : Type 0 whe
   pub ends : IsTail after around.after.to
 
 -- what a scramble does and, if each step is a line by itself, the steps before some, these, and all after them
-pub record IsAroundPart (scramble : Moves) (text bounds : List ℕ) (first behind : ℕ) (around : Around) : Type 0 where
+pub record IsAroundPart (scramble : Moves) (text bounds : List ℕ) (first end : ℕ) (around : Around) : Type 0 where
   pub attempt : IsAttempt around.attempt.now scramble text bounds
-  pub ordered : (first ≤ behind) × (behind < length bounds)
+  pub ordered : (first ≤ end) × (end < length bounds)
   pub are : around.attempt.now.are_lines ≡ true →
-      IsAround around (steps_line text bounds 0 first) (steps_line text bounds first behind) (steps_line text bounds behind (length bounds - 1))
+      IsAround around (steps_line text bounds 0 first) (steps_line text bounds first end) (steps_line text bounds end (length bounds - 1))
 
 -- the same before the step of a number and from it on
 abbrev pub IsAroundBorder : (scramble : Moves) (text bounds : List ℕ) (number : ℕ) → Around → Type 0

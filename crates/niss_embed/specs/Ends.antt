@@ -18,7 +18,7 @@ pub record EndSame (one other : List Turn) : Type 0 where
   pub one_is : one ≡ front ++ turn ∷ []
   pub other_is : other ≡ other_front ++ turn ∷ []
 
--- Both are the same behind two turns of each at most.
+-- Both are the same after two turns of each at most.
 pub record AreNearAtBegin (one other : List Turn) : Type 0 where
   pub own : List Turn
   pub others : List Turn

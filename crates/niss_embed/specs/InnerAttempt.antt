@@ -1,12 +1,12 @@
 -- Another attempt that stands within one that isn't solved.
-use Rattle.std.specs.Prelude.{◌≡◌, ℕ, ◌+◌, ◌&&◌, Bool, true, false, Option, List, [], ◌∷◌, length, drop, slice_range}
+use Rattle.std.specs.Prelude.{◌≡◌, ℕ, ◌+◌, ◌&&◌, Bool, true, false, Option, List, [], ◌∷◌, drop, slice_range}
 use Rattle.std.specs.List.{list_any}
 use Rattle.niss_text.specs.Moves.{is_wanted}
 use Rattle.niss_text.specs.declared.moves.MovesOf.TheVariants.{Solution, EachStep}
 use Rattle.niss_text.specs.declared.text_line.TextLine.{TextLine}
-use Rattle.niss_embed.specs.Another.{IsFirstTried, IsSolvedBy, begun_at, is_long}
+use Rattle.niss_embed.specs.Another.{IsBegun, IsSolvedBy, is_long}
 use Rattle.niss_embed.specs.Doubts.{AreWritten}
-use Rattle.niss_embed.specs.declared.attempts.Doubt.{Doubt}
+use Rattle.niss_embed.specs.declared.doubts.Doubt.{Doubt}
 
 -- a step, of the solution or not, that is as long as a short scramble
 abbrev pub is_long_line : TextLine → Bool
@@ -34,7 +34,5 @@ IsBegunIn text [] solves = solves ≡ false
 IsBegunIn text (line ∷ rest) solves = IsUndoneIfAny (list_any (is_wanted Solution) rest) text line rest solves
 
 -- What isn't solved is in doubt by the first of its long steps in which another attempt begins, or by none.
-pub record IsBegunWithin (text : List ℕ) (lines : List TextLine) (told : Doubt) : Type 0 where
-  pub first : Option ℕ
-  pub is_first : IsFirstTried (length lines) (may_be_scramble lines) (λ k solves. IsBegunIn text (drop k lines) solves) first
-  pub told_is : told ≡ begun_at lines first
+abbrev pub IsBegunWithin : (text : List ℕ) (lines : List TextLine) (told : Option Doubt) → Type 0
+IsBegunWithin text lines told = IsBegun lines (may_be_scramble lines) (λ k solves. IsBegunIn text (drop k lines) solves) told

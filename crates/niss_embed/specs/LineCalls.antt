@@ -27,6 +27,10 @@ status_number status.Stopped = 3
 status_number status.NoRoom = 4
 status_number status.Cut = 5
 
+-- room enough for each short text
+abbrev pub enough_bytes : ℕ
+enough_bytes = 2048
+
 -- how a call that writes a short text can end
 pub data Outcome : Type 0 where
   -- its text is written

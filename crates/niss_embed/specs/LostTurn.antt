@@ -9,7 +9,7 @@ use Rattle.niss_moves.specs.declared.fault.ReadFault.{ReadFault}
 use Rattle.niss_text.specs.declared.text_line.TextLine.{TextLine}
 use Rattle.niss_embed.specs.Between.{solves_between}
 use Rattle.niss_embed.specs.ShownTurn.{shown_at, turn_bytes}
-use Rattle.niss_embed.specs.declared.attempts.Doubt.{Doubt}
+use Rattle.niss_embed.specs.declared.doubts.Doubt.{Doubt}
 
 abbrev pub solves_with_turn : Result Moves ReadFault → (steps bounds : List ℕ) → ℕ → Turn → Bool
 solves_with_turn scramble steps bounds k t = solves_between scramble steps bounds k (turn_bytes t)

@@ -31,6 +31,10 @@ most_in_sets = 8
 abbrev pub most_step_bytes : ℕ
 most_step_bytes = 65536
 
+-- at how many places they begin and end
+abbrev pub most_bounds : ℕ
+most_bounds = 13
+
 -- whether a bracket is open after a byte, if one was before it or not
 abbrev pub is_open_after : Bool → ℕ → Bool
 is_open_after before byte = if byte == 40 then true else (if byte == 41 then false else before)
@@ -54,12 +58,12 @@ read_byte AsWritten byte = if byte == 10 then 32 else byte
 read_byte WithoutBrackets byte = if (byte == 10) || ((byte == 40) || (byte == 41)) then 32 else byte
 read_byte InCapitals byte = if byte == 10 then 32 else (if is_small_letter byte then byte - 32 else byte)
 
-abbrev pub part : How → (first behind : ℕ) → Part
-part how first behind = record { how = how; first = first; behind = behind }
+abbrev pub part : How → (first end : ℕ) → Part
+part how first end = record { how = how; first = first; end = end }
 
 -- the steps from one to another as a line, by the places where steps begin and end
-abbrev pub steps_line : (text bounds : List ℕ) (first behind : ℕ) → List ℕ
-steps_line text bounds first behind = map (read_byte AsWritten) (slice_range text (slice_index bounds first) (slice_index bounds behind))
+abbrev pub steps_line : (text bounds : List ℕ) (first end : ℕ) → List ℕ
+steps_line text bounds first end = map (read_byte AsWritten) (slice_range text (slice_index bounds first) (slice_index bounds end))
 
 -- bytes in brackets of their own, or not
 abbrev pub in_brackets_if : Bool → List ℕ → List ℕ
@@ -82,7 +86,7 @@ end_of_steps bounds = slice_index bounds (number_of_steps bounds)
 -- the line of a part
 abbrev pub part_line : List ℕ → List ℕ → Part → List ℕ
 part_line text bounds p =
-    arranged p.how (steps_line text bounds 0 p.first) (steps_line text bounds p.first p.behind) (steps_line text bounds p.behind (number_of_steps bounds))
+    arranged p.how (steps_line text bounds 0 p.first) (steps_line text bounds p.first p.end) (steps_line text bounds p.end (number_of_steps bounds))
 
 -- A line that is read has moves and solves a scramble that is read. One that has a fault doesn't.
 abbrev pub solves_line : Result Moves ReadFault → Result Moves ReadFault → Bool
@@ -130,12 +134,12 @@ how_number InBrackets = 3
 
 -- some of so many steps
 abbrev pub IsPart : ℕ → Part → Type 0
-IsPart steps p = (p.first < p.behind) × (p.behind ≤ steps)
+IsPart steps p = (p.first < p.end) × (p.end ≤ steps)
 
 -- a part that is tried before another: one with an earlier first step, of those the one with fewer steps, of those by what is done with them
 abbrev pub IsBefore : Part → Part → Type 0
 IsBefore p q =
-    (p.first < q.first) ⊎ ((p.first ≡ q.first) × ((p.behind < q.behind) ⊎ ((p.behind ≡ q.behind) × (how_number p.how < how_number q.how))))
+    (p.first < q.first) ⊎ ((p.first ≡ q.first) × ((p.end < q.end) ⊎ ((p.end ≡ q.end) × (how_number p.how < how_number q.how))))
 
 -- of what may be done with steps this is the first that solves, if one does
 abbrev pub IsHow : (How → Bool) → Option How → Type 0
@@ -224,7 +228,7 @@ no_part status = record { status = status_number status; how = 0; first = 0; las
 -- the answer to steps that begin and end at these places
 abbrev pub answer_of : List ℕ → Found → PartAnswer
 answer_of bounds (found.Part p) =
-    record { status = status_number Done; how = how_number p.how; first = p.first; last = p.behind - 1; begin = slice_index bounds p.first }
+    record { status = status_number Done; how = how_number p.how; first = p.first; last = p.end - 1; begin = slice_index bounds p.first }
 answer_of bounds found.WithoutBrackets = record { status = status_number Done; how = 4; first = 0; last = number_of_steps bounds - 1; begin = 0 }
 answer_of bounds (found.EachInBrackets set) =
     record { status = status_number Done; how = 5; first = first_in set; last = last_in set; begin = slice_index bounds (first_in set) }

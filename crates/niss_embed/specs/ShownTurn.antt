@@ -13,9 +13,10 @@ use Rattle.niss_text.specs.Signs.{is_digit, is_within}
 use Rattle.niss_text.specs.declared.moves.MovesOf.TheVariants.{EachStep}
 use Rattle.niss_text.specs.declared.text_line.TextLine.{TextLine}
 use Rattle.niss_embed.specs.BareLetter.{letter_between}
-use Rattle.niss_embed.specs.Blanks.{last_place, place_if}
+use Rattle.niss_embed.specs.Blanks.{last_of_moves, last_place, place_if}
 use Rattle.niss_embed.specs.Doubts.{doubt}
-use Rattle.niss_embed.specs.declared.attempts.Doubt.{Doubt}
+use Rattle.niss_embed.specs.declared.doubts.Doubt.{Doubt}
+use Rattle.niss_embed.specs.declared.doubts.Reason.TheVariants.{Insertion, Comment, Signs}
 use Rattle.niss_embed.specs.declared.shown_turn.Border.{Border}
 
 -- what stands after the letter of a turn, or a blank
@@ -71,42 +72,42 @@ is_empty_bracket bytes = (slice_index bytes 0 == 40) && (slice_index bytes 1 == 
 abbrev pub ends_bracket : List ℕ → TextLine → ℕ → Bool
 ends_bracket text line at = nat_lt line.moves (at - 1) && is_empty_bracket (slice_range text (at - 1) (at + 1))
 
-abbrev pub bracket_behind : List ℕ → TextLine → Option ℕ
-bracket_behind text line = option_map (λ at. at - 1) (place_if (ends_bracket text line) (last_place text line.moves line.comment))
+abbrev pub last_bracket : List ℕ → TextLine → Option ℕ
+last_bracket text line = option_map (λ at. at - 1) (place_if (ends_bracket text line) (last_of_moves text line))
 
--- The place of a sign behind the moves of a line: a stray one or a digit with which what follows these begins, or brackets
+-- The place of a sign after the moves of a line: a stray one or a digit with which what follows these begins, or brackets
 -- around nothing at their end.
 abbrev pub sign_after : List ℕ → TextLine → Option ℕ
 sign_after text line =
     let b = slice_index text line.comment in
     if nat_lt line.comment line.end && (is_stray b || is_digit b) then Some line.comment else None
 
-abbrev pub sign_behind : List ℕ → TextLine → Option ℕ
-sign_behind text line = option_or (sign_after text line) (bracket_behind text line)
+abbrev pub last_sign : List ℕ → TextLine → Option ℕ
+last_sign text line = option_or (sign_after text line) (last_bracket text line)
 
 -- The place of a sign before the moves of a line: a stray one, between which and these only blanks stand, on the label's
 -- side; or brackets around nothing at their beginning.
-abbrev pub bracket_before : List ℕ → TextLine → Option ℕ
-bracket_before text line = if is_empty_bracket (slice_range text line.moves line.comment) then Some line.moves else None
+abbrev pub first_bracket : List ℕ → TextLine → Option ℕ
+first_bracket text line = if is_empty_bracket (slice_range text line.moves line.comment) then Some line.moves else None
 
-abbrev pub sign_before : List ℕ → TextLine → Option ℕ
-sign_before text line =
-    option_or (place_if (λ at. is_stray (slice_index text at)) (last_place text line.label_begin line.moves)) (bracket_before text line)
+abbrev pub first_sign : List ℕ → TextLine → Option ℕ
+first_sign text line =
+    option_or (place_if (λ at. is_stray (slice_index text at)) (last_place text line.label_begin line.moves)) (first_bracket text line)
 
--- the steps among lines, the one of a number, and the one behind which a step of that number stands
+-- the steps among lines, the one of a number, and the one after which a step of that number stands
 abbrev pub steps_among : List TextLine → List TextLine
 steps_among lines = filter (is_wanted EachStep) lines
 
 abbrev pub step_at : List TextLine → ℕ → Option TextLine
 step_at lines k = slice_get (steps_among lines) k
 
-abbrev pub step_behind : List TextLine → ℕ → Option TextLine
-step_behind lines zero = None
-step_behind lines (suc k) = step_at lines k
+abbrev pub step_above : List TextLine → ℕ → Option TextLine
+step_above lines zero = None
+step_above lines (suc k) = step_at lines k
 
 -- the signs beside the moves of a line, and of all steps; whether there is a single one
 abbrev pub signs_of : List ℕ → TextLine → List ℕ
-signs_of text line = option_to_list (sign_before text line) ++ option_to_list (sign_behind text line)
+signs_of text line = option_to_list (first_sign text line) ++ option_to_list (last_sign text line)
 
 abbrev pub signs_among : List ℕ → List TextLine → List ℕ
 signs_among text lines = flat_map (signs_of text) (steps_among lines)
@@ -119,39 +120,39 @@ abbrev pub said_in_step : List ℕ → Option TextLine → Face → Option ℕ
 said_in_step text None f = None
 said_in_step text (Some line) f = said_in text line f
 
-abbrev pub sign_behind_step : List ℕ → Option TextLine → Option ℕ
-sign_behind_step text None = None
-sign_behind_step text (Some line) = sign_behind text line
+abbrev pub last_sign_of : List ℕ → Option TextLine → Option ℕ
+last_sign_of text None = None
+last_sign_of text (Some line) = last_sign text line
 
-abbrev pub sign_before_step : List ℕ → Option TextLine → Option ℕ
-sign_before_step text None = None
-sign_before_step text (Some line) = sign_before text line
+abbrev pub first_sign_of : List ℕ → Option TextLine → Option ℕ
+first_sign_of text None = None
+first_sign_of text (Some line) = first_sign text line
 
 -- the sign between two steps, if it is the only one
-abbrev pub sign_between : List ℕ → (behind before : Option TextLine) → (is_one : Bool) → Option ℕ
-sign_between text behind before false = None
-sign_between text behind before true = option_or (sign_behind_step text behind) (sign_before_step text before)
+abbrev pub sign_between : List ℕ → (above below : Option TextLine) → (is_one : Bool) → Option ℕ
+sign_between text above below false = None
+sign_between text above below true = option_or (last_sign_of text above) (first_sign_of text below)
 
 -- the doubt of what is said, that moves belong there, else of a letter that may be of words, else of a sign
 abbrev pub shown_by : (said letter sign : Option ℕ) → Option Doubt
-shown_by said letter sign = option_or (option_or (option_map (doubt 8) said) (option_map (doubt 6) letter)) (option_map (doubt 12) sign)
+shown_by said letter sign = option_or (option_or (option_map (doubt Insertion) said) (option_map (doubt Comment) letter)) (option_map (doubt Signs) sign)
 
 -- The doubt of a turn that the text shows between two steps: by its face in the comment of the first, else of the second,
 -- else by a letter that it takes back, else by the only sign.
-abbrev pub shown_between : List ℕ → (behind before : Option TextLine) → (is_one : Bool) → Turn → Option Doubt
-shown_between text behind before is_one t =
-    shown_by (option_or (said_in_step text behind t.face) (said_in_step text before t.face)) (letter_between text behind before t)
-    (sign_between text behind before is_one)
+abbrev pub shown_between : List ℕ → (above below : Option TextLine) → (is_one : Bool) → Turn → Option Doubt
+shown_between text above below is_one t =
+    shown_by (option_or (said_in_step text above t.face) (said_in_step text below t.face)) (letter_between text above below t)
+    (sign_between text above below is_one)
 
 -- the same before the step of a number, or after the last one
 abbrev pub shown_at : List ℕ → List TextLine → ℕ → Turn → Option Doubt
-shown_at text lines k t = shown_between text (step_behind lines k) (step_at lines k) (has_one_sign text lines) t
+shown_at text lines k t = shown_between text (step_above lines k) (step_at lines k) (has_one_sign text lines) t
 
 -- This is what stands before the step of a number, or after the last one, with the lines after that step.
 pub record IsBorder (text : List ℕ) (lines : List TextLine) (k : ℕ) (border : Border) : Type 0 where
   pub text_is : border.text.now ≡ text
   pub number_is : border.number ≡ k
-  pub behind_is : border.behind ≡ step_behind lines k
-  pub before_is : border.before ≡ step_at lines k
+  pub above_is : border.above ≡ step_above lines k
+  pub below_is : border.below ≡ step_at lines k
   pub one_is : border.has_one_sign ≡ has_one_sign text lines
   pub rest_is : steps_among border.rest.now ≡ drop (k + 1) (steps_among lines)

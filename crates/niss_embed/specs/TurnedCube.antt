@@ -15,7 +15,8 @@ use Rattle.niss_embed.specs.Corners.{Brings, home}
 use Rattle.niss_embed.specs.Doubts.{doubt}
 use Rattle.niss_embed.specs.Parts.{number_of_steps}
 use Rattle.niss_embed.specs.ShownTurn.{step_at, suffix_byte}
-use Rattle.niss_embed.specs.declared.attempts.Doubt.{Doubt}
+use Rattle.niss_embed.specs.declared.doubts.Doubt.{Doubt}
+use Rattle.niss_embed.specs.declared.doubts.Reason.TheVariants.{Insertion}
 use Rattle.niss_embed.specs.declared.holds.Hold.{Hold}
 use Rattle.niss_embed.specs.declared.holds.TheConstants.{HOLDS}
 use Rattle.niss_embed.specs.declared.step_corners.Around.{Around}
@@ -62,13 +63,17 @@ IsFirstOf count Is None = (j : ℕ) → j < count → Is j false
 -- the doubt that moves belong before the step of a number
 abbrev pub doubt_at_step : List TextLine → Option ℕ → Option Doubt
 doubt_at_step lines None = None
-doubt_at_step lines (Some k) = option_map (λ line. doubt 8 line.moves) (step_at lines k)
+doubt_at_step lines (Some k) = option_map (λ line. doubt Insertion line.moves) (step_at lines k)
+
+-- The doubt that moves belong before the first step of which something is true, or none.
+pub record IsAtFirst (bounds : List ℕ) (lines : List TextLine) (Is : ℕ → Bool → Type 0) (told : Option Doubt) : Type 0 where
+  pub first : Option ℕ
+  pub is_first : IsFirstOf (number_of_steps bounds) Is first
+  pub told_is : told ≡ doubt_at_step lines first
 
 -- The doubt that a rotation belongs before a step, the first before which all steps solve with one, or none.
-pub record IsTurnedIn (scramble : Result Moves ReadFault) (steps bounds : List ℕ) (lines : List TextLine) (told : Option Doubt) : Type 0 where
-  pub first : Option ℕ
-  pub is_first : IsFirstOf (number_of_steps bounds) (IsTurnedAt scramble steps bounds) first
-  pub told_is : told ≡ doubt_at_step lines first
+abbrev pub IsTurnedIn : Result Moves ReadFault → (steps bounds : List ℕ) → List TextLine → (told : Option Doubt) → Type 0
+IsTurnedIn scramble steps bounds lines told = IsAtFirst bounds lines (IsTurnedAt scramble steps bounds) told
 
 -- what the scramble and the steps before a place do to the corners, and the moves after it
 pub record AreSides (around : Around) (sides : Sides) : Type 0 where

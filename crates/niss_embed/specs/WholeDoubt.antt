@@ -1,44 +1,32 @@
 -- What makes one doubt an attempt of which no part solves: a turn that was lost, a cube that was turned, or a step that was moved.
-use Rattle.std.specs.Prelude.{◌≡◌, ℕ, ◌==◌, nat_lt, Bool, true, false, not, ◌||◌, Option, None, Some, Result, List, length}
+use Rattle.std.specs.Prelude.{◌≡◌, ℕ, ◌==◌, nat_lt, Bool, true, false, not, ◌||◌, Option, None, Result, List, length}
 use Rattle.niss_moves.specs.Line.{Moves}
 use Rattle.niss_moves.specs.Reader.{read_line}
 use Rattle.niss_moves.specs.declared.fault.ReadFault.{ReadFault}
 use Rattle.niss_shell.specs.Words.{most_bytes}
 use Rattle.niss_text.specs.declared.text_line.TextLine.{TextLine}
+use Rattle.niss_embed.specs.Doubts.{OrElse}
 use Rattle.niss_embed.specs.LostTurn.{IsLostIn}
 use Rattle.niss_embed.specs.MovedStep.{IsMovedIn}
 use Rattle.niss_embed.specs.Parts.{bounds_of, most_step_bytes, number_of_steps}
 use Rattle.niss_embed.specs.ShownTurn.{steps_among}
 use Rattle.niss_embed.specs.TurnedCube.{IsTurnedIn}
-use Rattle.niss_embed.specs.declared.attempts.Doubt.{Doubt}
+use Rattle.niss_embed.specs.declared.doubts.Doubt.{Doubt}
 
 -- The steps aren't a line each of the text, or too many, or they or the scramble have too many bytes.
 abbrev pub is_beyond : (scramble steps : List ℕ) → List TextLine → Bool
 is_beyond scramble steps lines =
     not (number_of_steps (bounds_of steps) == length (steps_among lines)) || (nat_lt most_bytes (length scramble) || nat_lt most_step_bytes (length steps))
 
--- what is told of a cube that was turned, or if it wasn't, of a step that was moved
-abbrev pub IsElseMoved : (turned : Option Doubt) → Result Moves ReadFault → (steps bounds : List ℕ) → List TextLine → Option Doubt → Type 0
-IsElseMoved (Some it) scramble steps bounds lines told = told ≡ Some it
-IsElseMoved None scramble steps bounds lines told = IsMovedIn scramble steps bounds lines told
-
 -- The doubt that the cube was turned before a step; or if it wasn't, that a step belongs elsewhere; or none.
-pub record IsTurnedOrMovedIn (scramble : Result Moves ReadFault) (steps bounds : List ℕ) (lines : List TextLine) (told : Option Doubt) : Type 0 where
-  pub turned : Option Doubt
-  pub is_turned : IsTurnedIn scramble steps bounds lines turned
-  pub told_is : IsElseMoved turned scramble steps bounds lines told
+abbrev pub IsTurnedOrMovedIn : Result Moves ReadFault → (steps bounds : List ℕ) → List TextLine → (told : Option Doubt) → Type 0
+IsTurnedOrMovedIn scramble steps bounds lines told =
+    OrElse (λ it. IsTurnedIn scramble steps bounds lines it) (λ it. IsMovedIn scramble steps bounds lines it) told
 
--- what is told of a turn that was lost, or if none was, of a cube that was turned, or of a step that was moved
-abbrev pub IsElseTurned : (lost : Option Doubt) → Result Moves ReadFault → (steps bounds : List ℕ) → List TextLine → Option Doubt → Type 0
-IsElseTurned (Some it) scramble steps bounds lines told = told ≡ Some it
-IsElseTurned None scramble steps bounds lines told = IsTurnedOrMovedIn scramble steps bounds lines told
-
--- The doubt that a turn was lost beside a step, which the text shows there; or if none was, that the cube was turned before
--- one; or if it wasn't, that one belongs elsewhere; or none.
-pub record IsWholeDoubtIn (scramble : Result Moves ReadFault) (steps bounds text : List ℕ) (lines : List TextLine) (told : Option Doubt) : Type 0 where
-  pub lost : Option Doubt
-  pub is_lost : IsLostIn scramble steps bounds text lines lost
-  pub told_is : IsElseTurned lost scramble steps bounds lines told
+-- The doubt that a turn was lost beside a step, which the text shows there; or if none was, the same.
+abbrev pub IsWholeDoubtIn : Result Moves ReadFault → (steps bounds text : List ℕ) → List TextLine → (told : Option Doubt) → Type 0
+IsWholeDoubtIn scramble steps bounds text lines told =
+    OrElse (λ it. IsLostIn scramble steps bounds text lines it) (λ it. IsTurnedOrMovedIn scramble steps bounds lines it) told
 
 abbrev pub TellsWhole : (is_beyond : Bool) → (scramble steps text : List ℕ) → List TextLine → Option Doubt → Type 0
 TellsWhole true scramble steps text lines told = told ≡ None

@@ -1,12 +1,14 @@
 //! Lines of a solution that may be of another attempt, if what stands before them solves.
-ghost use Rattle.std.specs.Prelude.{◌≡◌, ◌≤◌, ◌<◌, ◌&&◌, IfSome, IsSome, length, nat_le, nat_lt};
+ghost use Rattle.std.specs.Prelude.{◌≡◌, ◌<◌, ◌&&◌, IfOk, length, nat_lt};
 ghost use Rattle.niss_text.specs.Moves.{most_bytes};
-ghost use Rattle.niss_embed.specs.Another.{IsBegunAgain, IsSolvedBy, is_long, may_begin};
+ghost use Rattle.niss_embed.specs.Another.{IsBegunAgain, IsSolvedBy, is_long, may_begin, most_lines_tried};
+ghost use Rattle.niss_embed.specs.Doubts.{IsOkIfRoom};
 
-use crate::attempts::{Doubt, OF_SOLUTION, moves_of};
+use crate::doubts::Doubt;
 use crate::line_facts::check_line;
 use crate::step_lines::{has_solution, is_of_solution};
-use niss_text::TextLine;
+use crate::written::{NoRoom, moves_of};
+use niss_text::{MovesOf, TextLine};
 
 /// How many bytes the moves of a line have at least in which another attempt may begin.
 const LEAST_BYTES: usize = 20;
@@ -33,7 +35,7 @@ fn may_begin(lines: &[TextLine], at: usize) -> bool
 /// Whether such a line is tried, after so many that are.
 fn is_tried(tried: usize, lines: &[TextLine], at: usize) -> bool
     requires { at < length lines.now }
-    ensures { result ≡ (nat_lt tried 12 && may_begin lines.now at) }
+    ensures { result ≡ (nat_lt tried most_lines_tried && may_begin lines.now at) }
 {
     tried < MOST_TRIED && may_begin(lines, at)
 }
@@ -45,12 +47,12 @@ pub(crate) fn is_solved_by(
     scramble: &[u8],
     out: &mut [u8],
     places: &mut [u64],
-) -> Option<bool>
-    ensures is { IfSome result (λ solves. IsSolvedBy text.now lines.now scramble.now solves) }
-    ensures room { most_bytes lines.now ≤ length out.old → most_bytes lines.now ≤ length places.old → IsSome result }
+) -> Result<bool, NoRoom>
+    ensures is { IfOk result (λ solves. IsSolvedBy text.now lines.now scramble.now solves) }
+    ensures room { IsOkIfRoom (most_bytes lines.now) out.old places.old result }
 {
-    let count = moves_of(text, lines, OF_SOLUTION, out, places)?;
-    Some(check_line(scramble, &out[..count]).solved)
+    let count = moves_of(text, lines, MovesOf::Solution, out, places)?;
+    Ok(check_line(scramble, &out[..count]).solved)
 }
 
 /// What makes one doubt an attempt that is solved: that it is so before a line in which another one may begin, the first such.
@@ -60,9 +62,9 @@ pub(crate) fn doubt_of_another(
     scramble: &[u8],
     out: &mut [u8],
     places: &mut [u64],
-) -> Option<Doubt>
-    ensures are { IfSome result (λ told. IsBegunAgain text.now lines.now scramble.now told) }
-    ensures room { most_bytes lines.now ≤ length out.old → most_bytes lines.now ≤ length places.old → IsSome result }
+) -> Result<Option<Doubt>, NoRoom>
+    ensures are { IfOk result (λ told. IsBegunAgain text.now lines.now scramble.now told) }
+    ensures room { IsOkIfRoom (most_bytes lines.now) out.old places.old result }
 {
     let mut tried = 0;
     for at in 0..lines.len() {
@@ -71,8 +73,8 @@ pub(crate) fn doubt_of_another(
         }
         tried += 1;
         if is_solved_by(text, &lines[..at], scramble, out, places)? {
-            return Some(Doubt::begun_in(&lines[at..]));
+            return Ok(Doubt::begun_in(&lines[at..]));
         }
     }
-    Some(Doubt::none())
+    Ok(None)
 }

@@ -1,15 +1,18 @@
 //! Checks all attempts of a text by one call.
-ghost use Rattle.std.specs.Prelude.{◌≡◌, ◌≤◌, ◌<◌, ◌*◌, ◌+◌, ◌&&◌, ◌==◌, ◌⊎◌, IfSome, IsSome, length, take, drop, set};
+ghost use Rattle.std.specs.Prelude.{◌≡◌, ◌≤◌, ◌<◌, ◌*◌, ◌+◌, ◌&&◌, ◌==◌, ◌⊎◌, IfOk, length, take, drop, set};
 ghost use Rattle.niss_text.specs.Moves.{most_bytes};
 ghost use Rattle.niss_embed.specs.Attempts.{Are, IsOfAttempt, IsOfScramble, IsOfSolutions, IsUnseen, ChecksAttempts, attempts_from, number_of_checks};
+ghost use Rattle.niss_embed.specs.Doubts.{IsOkIfRoom};
 
 use crate::answer::Status;
-use crate::attempts::{NONE, check_own};
+use crate::attempts::check_own;
+use crate::doubts::Reason;
 use crate::fact_answers::CheckAnswer;
 use crate::judged::Judged;
-use crate::known_parts::{Known, Solution, WHICH_SCRAMBLE};
+use crate::known_parts::{Known, Solution};
 use crate::runs::{Placed, Run, next_run};
 use crate::stretch::stretch;
+use crate::written::{NONE, NoRoom};
 use niss_text::{KnownPart, TextLine};
 
 /// What is said of an attempt that was checked.
@@ -65,7 +68,7 @@ fn unseen(part: &KnownPart) -> Placed
         judged: Judged {
             fault_at: NONE,
             doubt_at: part.begin,
-            doubt: WHICH_SCRAMBLE,
+            doubt: Reason::WhichScramble.number(),
             is_doubted: true,
             is_checked: false,
             check: CheckAnswer::nothing(),
@@ -75,12 +78,17 @@ fn unseen(part: &KnownPart) -> Placed
 
 impl Attempts<'_> {
     /// What is said of a part of a text of solutions.
-    fn judge_part(&self, part: &KnownPart, out: &mut [u8], places: &mut [u64]) -> Option<Placed>
-        ensures is { IfSome result (λ it. IsOfScramble self.now.text.now self.now.lines.now self.now.known.scrambles.now self.now.known.ends.now part.now it) }
-        ensures room { 2 * most_bytes self.now.lines.now ≤ length out.old → 2 * most_bytes self.now.lines.now ≤ length places.old → IsSome result }
+    fn judge_part(
+        &self,
+        part: &KnownPart,
+        out: &mut [u8],
+        places: &mut [u64],
+    ) -> Result<Placed, NoRoom>
+        ensures is { IfOk result (λ it. IsOfScramble self.now.text.now self.now.lines.now self.now.known.scrambles.now self.now.known.ends.now part.now it) }
+        ensures room { IsOkIfRoom (2 * most_bytes self.now.lines.now) out.old places.old result }
     {
         let Some(scramble) = self.known.scramble(part.scramble) else {
-            return Some(unseen(part));
+            return Ok(unseen(part));
         };
         let own = stretch(self.lines, part.first_line, part.solution_end);
         let others = stretch(self.lines, 0, part.end_line);
@@ -105,12 +113,12 @@ impl Attempts<'_> {
         part: &KnownPart,
         out: &mut [u8],
         places: &mut [u64],
-    ) -> Option<AttemptCheck>
-        ensures is { IfSome result (λ it. IsOfSolutions self.now.text.now self.now.lines.now self.now.known.scrambles.now self.now.known.ends.now part.now it) }
-        ensures room { 2 * most_bytes self.now.lines.now ≤ length out.old → 2 * most_bytes self.now.lines.now ≤ length places.old → IsSome result }
+    ) -> Result<AttemptCheck, NoRoom>
+        ensures is { IfOk result (λ it. IsOfSolutions self.now.text.now self.now.lines.now self.now.known.scrambles.now self.now.known.ends.now part.now it) }
+        ensures room { IsOkIfRoom (2 * most_bytes self.now.lines.now) out.old places.old result }
     {
         let placed = self.judge_part(part, out, places)?;
-        Some(AttemptCheck {
+        Ok(AttemptCheck {
             scramble: self.known.number_or_none(part.scramble),
             name_begin: part.name_begin,
             name_end: part.name_end,
@@ -124,12 +132,12 @@ impl Attempts<'_> {
         out: &mut [u8],
         places: &mut [u64],
         checks: &mut [AttemptCheck],
-    ) -> Option<usize>
-        ensures are { IfSome result (λ count. count ≤ length checks.new →
+    ) -> Result<usize, NoRoom>
+        ensures are { IfOk result (λ count. count ≤ length checks.new →
             Are (IsOfSolutions self.now.text.now self.now.lines.now self.now.known.scrambles.now self.now.known.ends.now) self.now.parts.now (take count checks.new)) }
-        ensures all { IfSome result (λ count. count ≡ length self.now.parts.now) }
-        ensures room { 2 * most_bytes self.now.lines.now ≤ length out.old → 2 * most_bytes self.now.lines.now ≤ length places.old → IsSome result }
-        ensures behind { IfSome result (λ count. drop count checks.new ≡ drop count checks.old) }
+        ensures all { IfOk result (λ count. count ≡ length self.now.parts.now) }
+        ensures room { IsOkIfRoom (2 * most_bytes self.now.lines.now) out.old places.old result }
+        ensures behind { IfOk result (λ count. drop count checks.new ≡ drop count checks.old) }
     {
         let mut count = 0;
         let mut rest = self.parts;
@@ -139,7 +147,7 @@ impl Attempts<'_> {
             count += 1;
             rest = after;
         }
-        Some(count)
+        Ok(count)
     }
 
     /// Checks the attempts among lines that have a scramble.
@@ -149,13 +157,13 @@ impl Attempts<'_> {
         out: &mut [u8],
         places: &mut [u64],
         checks: &mut [AttemptCheck],
-    ) -> Option<usize>
-        ensures are { IfSome result (λ count. count ≤ length checks.new →
+    ) -> Result<usize, NoRoom>
+        ensures are { IfOk result (λ count. count ≤ length checks.new →
             Are (IsOfAttempt self.now.text.now self.now.lines.now) (attempts_from 0 self.now.lines.now) (take count checks.new)) }
-        ensures few { IfSome result (λ count. count ≤ length self.now.lines.now) }
-        ensures all { IfSome result (λ count. count ≡ length (attempts_from 0 self.now.lines.now)) }
-        ensures room { 2 * most_bytes self.now.lines.now ≤ length out.old → 2 * most_bytes self.now.lines.now ≤ length places.old → IsSome result }
-        ensures behind { IfSome result (λ count. drop count checks.new ≡ drop count checks.old) }
+        ensures few { IfOk result (λ count. count ≤ length self.now.lines.now) }
+        ensures all { IfOk result (λ count. count ≡ length (attempts_from 0 self.now.lines.now)) }
+        ensures room { IsOkIfRoom (2 * most_bytes self.now.lines.now) out.old places.old result }
+        ensures behind { IfOk result (λ count. drop count checks.new ≡ drop count checks.old) }
     {
         let mut count = 0;
         let mut at = 0;
@@ -172,7 +180,7 @@ impl Attempts<'_> {
             count += 1;
             at = run.end;
         }
-        Some(count)
+        Ok(count)
     }
 }
 
@@ -204,15 +212,15 @@ pub fn check_attempts(
         attempts.check_parts(out, places, checks)
     };
     match counted {
-        Some(count) if count <= checks.len() => AttemptsAnswer {
+        Ok(count) if count <= checks.len() => AttemptsAnswer {
             status: Status::Done.number(),
             attempts: count,
         },
-        Some(count) => AttemptsAnswer {
+        Ok(count) => AttemptsAnswer {
             status: Status::NoRoom.number(),
             attempts: count,
         },
-        None => AttemptsAnswer {
+        Err(NoRoom) => AttemptsAnswer {
             status: Status::NoRoom.number(),
             attempts: 0,
         },

@@ -3,7 +3,7 @@ ghost use Rattle.std.specs.Prelude.{◌≡◌, None, false};
 ghost use Rattle.niss_moves.specs.declared.turn.Turn.{Turn};
 ghost use Rattle.niss_embed.specs.BareLetter.{bare_first, bare_first_of, bare_last, bare_last_of, if_counter, is_bare_first, is_bare_last, letter_between, letter_if};
 
-use crate::shown_turn::{is_blank, last_place};
+use crate::shown_turn::{is_blank, last_of_moves};
 use crate::turn_words::{byte_at, letter};
 use niss_moves::{Face, Power, Turn};
 use niss_text::TextLine;
@@ -19,7 +19,7 @@ fn is_bare_last(text: &[u8], line: &TextLine, at: usize) -> bool
 fn bare_last(text: &[u8], line: &TextLine) -> Option<usize>
     ensures { result ≡ bare_last text.now line.now }
 {
-    match last_place(text, line.moves, line.comment) {
+    match last_of_moves(text, line) {
         Some(at) if is_bare_last(text, line, at) => Some(at),
         _ => None,
     }
@@ -88,20 +88,20 @@ fn if_counter(power: Power, place: Option<usize>) -> Option<usize>
 /// the second.
 pub fn letter_between(
     text: &[u8],
-    behind: &Option<TextLine>,
-    before: &Option<TextLine>,
+    above: &Option<TextLine>,
+    below: &Option<TextLine>,
     turn: Turn,
 ) -> Option<usize>
-    ensures { result ≡ letter_between text.now behind.now before.now turn }
+    ensures { result ≡ letter_between text.now above.now below.now turn }
 {
-    let last = letter_if(text, turn.face, bare_last_of(text, behind));
-    let first = letter_if(text, turn.face, bare_first_of(text, before));
+    let last = letter_if(text, turn.face, bare_last_of(text, above));
+    let first = letter_if(text, turn.face, bare_first_of(text, below));
     if_counter(turn.power, last.or(first))
 }
 
 /// Whether some letter may stand so.
-pub fn may_stand(text: &[u8], behind: &Option<TextLine>, before: &Option<TextLine>) -> bool
-    ensures { result ≡ false → (turn : Turn) → letter_between text.now behind.now before.now turn ≡ None }
+pub fn may_stand(text: &[u8], above: &Option<TextLine>, below: &Option<TextLine>) -> bool
+    ensures { result ≡ false → (turn : Turn) → letter_between text.now above.now below.now turn ≡ None }
 {
-    bare_last_of(text, behind).is_some() || bare_first_of(text, before).is_some()
+    bare_last_of(text, above).is_some() || bare_first_of(text, below).is_some()
 }

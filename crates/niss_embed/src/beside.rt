@@ -1,6 +1,7 @@
 //! Steps beside the solution of an attempt that is solved: of another attempt, or the solution with a slip.
-ghost use Rattle.std.specs.Prelude.{◌≡◌, ◌↔◌, ◌≤◌, ◌&&◌, ℕ, List, [], ◌∷◌, IfSome, IsSome, IsTrue, MatchOption, true, false, not, if◌then◌else◌, length};
+ghost use Rattle.std.specs.Prelude.{◌≡◌, ◌↔◌, ◌&&◌, ℕ, List, [], ◌∷◌, IfOk, None, Some, IsTrue, MatchOption, true, false, not, if◌then◌else◌};
 ghost use Rattle.std.specs.List.{list_any};
+ghost use Rattle.std.specs.Option.{option_or};
 ghost use Rattle.niss_moves.specs.Line.{Moves};
 ghost use Rattle.niss_moves.specs.Reader.{IsFed};
 ghost use Rattle.niss_moves.specs.Solving.{solves};
@@ -9,24 +10,23 @@ ghost use Rattle.niss_text.specs.Moves.{is_wanted, most_bytes};
 ghost use Rattle.niss_text.specs.declared.moves.MovesOf.TheVariants.{EachStep};
 ghost use Rattle.niss_text.specs.declared.text_line.TextLine.{TextLine};
 ghost use Rattle.niss_embed.specs.Beside.{AreNear, IsDoubtBeside, IsFound, IsOfLong, IsSeen, IsSlip, is_long_other, turns_of, undoes};
-ghost use Rattle.niss_embed.specs.Doubts.{doubt, or_else};
+ghost use Rattle.niss_embed.specs.Doubts.{IsOkIfRoom, doubt};
 ghost use Rattle.niss_embed.specs.LineFacts.{IsReadAs};
+ghost use Rattle.niss_embed.specs.declared.doubts.Reason.TheVariants.{AnotherAttempt, SeveralSolutions};
 
-use crate::attempts::{ANOTHER_ATTEMPT, Doubt, OF_EACH_STEP, OF_SOLUTION, moves_of};
+use crate::doubts::{Doubt, Reason};
 use crate::line_texts::read_by;
 use crate::near::are_near;
 use crate::step_lines::is_step;
+use crate::written::{NoRoom, moves_of};
 use niss_moves::laws::{cleaned_lines, one_clean_list};
 use niss_moves::{Faces, LineReader, Niss, Turn, cleanup, unniss};
 use niss_shell::{MOST_BYTES, solves};
-use niss_text::TextLine;
+use niss_text::{MovesOf, TextLine};
 use std::slice::from_ref;
 
 /// How many bytes the moves of a line have at least that are as long as a scramble.
 const SCRAMBLE_BYTES: usize = 40;
-
-/// The doubt that there are several solutions.
-const SEVERAL_SOLUTIONS: u8 = 2;
 
 /// What is seen of a step that isn't of the solution and is as long as a scramble. Of others it is nothing.
 #[derive(Clone, Copy)]
@@ -43,9 +43,9 @@ pub struct Beside {
     /// The first one stands apart.
     pub begins_apart: bool,
     /// The doubt that another attempt begins in one of them.
-    pub another: Doubt,
+    pub another: Option<Doubt>,
     /// The doubt that one is the solution with a slip.
-    pub slip: Doubt,
+    pub slip: Option<Doubt>,
 }
 
 /// An attempt that is solved: its text, its scramble, and the turns of its solution, cleaned.
@@ -88,34 +88,34 @@ impl Beside {
     {
         Beside {
             begins_apart: false,
-            another: Doubt::none(),
-            slip: Doubt::none(),
+            another: None,
+            slip: None,
         }
     }
 
     /// The doubt that another attempt begins, with a step before the others.
-    fn another_with(self, at: usize, is_apart: bool) -> Doubt
-        ensures { result ≡ (if is_apart && self.begins_apart then doubt 13 at else self.another) }
+    fn another_with(self, at: usize, is_apart: bool) -> Option<Doubt>
+        ensures { result ≡ (if is_apart && self.begins_apart then Some (doubt AnotherAttempt at) else self.another) }
     {
         if is_apart && self.begins_apart {
-            Doubt {
-                reason: ANOTHER_ATTEMPT,
+            Some(Doubt {
+                reason: Reason::AnotherAttempt,
                 at,
-            }
+            })
         } else {
             self.another
         }
     }
 
     /// The doubt that one is the solution with a slip, with a step before the others.
-    fn slip_with(self, at: usize, is_slip: bool) -> Doubt
-        ensures { result ≡ (if is_slip then doubt 2 at else self.slip) }
+    fn slip_with(self, at: usize, is_slip: bool) -> Option<Doubt>
+        ensures { result ≡ (if is_slip then Some (doubt SeveralSolutions at) else self.slip) }
     {
         if is_slip {
-            Doubt {
-                reason: SEVERAL_SOLUTIONS,
+            Some(Doubt {
+                reason: Reason::SeveralSolutions,
                 at,
-            }
+            })
         } else {
             self.slip
         }
@@ -134,10 +134,10 @@ impl Beside {
     }
 
     /// What makes one doubt the attempt.
-    fn doubt(self) -> Doubt
-        ensures { result ≡ or_else self.another self.slip }
+    fn doubt(self) -> Option<Doubt>
+        ensures { result ≡ option_or self.another self.slip }
     {
-        self.another.or_else(self.slip)
+        self.another.or(self.slip)
     }
 }
 
@@ -174,24 +174,29 @@ impl Solved<'_> {
     }
 
     /// What is seen of a step.
-    fn see(&self, line: &TextLine, out: &mut [u8], places: &mut [u64]) -> Option<Seen>
-        ensures is { IfSome result (λ seen. IsSeen (is_long_other line.now) self.now.text.now line.now self.now.scramble.now self.now.solution.now seen) }
-        ensures room { most_bytes (line.now ∷ []) ≤ length out.old → most_bytes (line.now ∷ []) ≤ length places.old → IsSome result }
+    fn see(&self, line: &TextLine, out: &mut [u8], places: &mut [u64]) -> Result<Seen, NoRoom>
+        ensures is { IfOk result (λ seen. IsSeen (is_long_other line.now) self.now.text.now line.now self.now.scramble.now self.now.solution.now seen) }
+        ensures room { IsOkIfRoom (most_bytes (line.now ∷ [])) out.old places.old result }
     {
         if !is_long_other(line) {
-            return Some(Seen {
+            return Ok(Seen {
                 is_apart: false,
                 is_slip: false,
             });
         }
-        let count = moves_of(self.text, from_ref(line), OF_EACH_STEP, out, places)?;
-        Some(self.see_line(&out[..count], line.comment == line.end))
+        let count = moves_of(self.text, from_ref(line), MovesOf::EachStep, out, places)?;
+        Ok(self.see_line(&out[..count], line.comment == line.end))
     }
 
     /// What is found in the steps among some lines, from the last one up.
-    fn found_in(&self, lines: &[TextLine], out: &mut [u8], places: &mut [u64]) -> Option<Beside>
-        ensures is { IfSome result (λ it. IsFound self.now.text.now lines.now self.now.scramble.now self.now.solution.now it) }
-        ensures room { most_bytes lines.now ≤ length out.old → most_bytes lines.now ≤ length places.old → IsSome result }
+    fn found_in(
+        &self,
+        lines: &[TextLine],
+        out: &mut [u8],
+        places: &mut [u64],
+    ) -> Result<Beside, NoRoom>
+        ensures is { IfOk result (λ it. IsFound self.now.text.now lines.now self.now.scramble.now self.now.solution.now it) }
+        ensures room { IsOkIfRoom (most_bytes lines.now) out.old places.old result }
     {
         let mut found = Beside::nothing();
         let mut rest = lines;
@@ -203,7 +208,7 @@ impl Solved<'_> {
             let seen = self.see(line, out, places)?;
             found = found.with(line, seen);
         }
-        Some(found)
+        Ok(found)
     }
 }
 
@@ -225,18 +230,18 @@ fn doubt_of_long(
     scramble: &[u8],
     out: &mut [u8],
     places: &mut [u64],
-) -> Option<Doubt>
-    ensures is { IfSome result (λ told. IsOfLong text.now lines.now scramble.now told) }
-    ensures room { most_bytes lines.now ≤ length out.old → most_bytes lines.now ≤ length places.old → IsSome result }
+) -> Result<Option<Doubt>, NoRoom>
+    ensures is { IfOk result (λ told. IsOfLong text.now lines.now scramble.now told) }
+    ensures room { IsOkIfRoom (most_bytes lines.now) out.old places.old result }
 {
-    let count = moves_of(text, lines, OF_SOLUTION, out, places)?;
+    let count = moves_of(text, lines, MovesOf::Solution, out, places)?;
     let mut first = LineReader::new();
     let Some(scramble) = moves_by(&mut first, scramble) else {
-        return Some(Doubt::none());
+        return Ok(None);
     };
     let mut second = LineReader::new();
     let Some(solution) = moves_by(&mut second, &out[..count]) else {
-        return Some(Doubt::none());
+        return Ok(None);
     };
     let turns = turns_of(solution);
     let solved = Solved {
@@ -245,7 +250,7 @@ fn doubt_of_long(
         solution: turns.as_slice(),
     };
     let found = solved.found_in(lines, out, places)?;
-    Some(found.doubt())
+    Ok(found.doubt())
 }
 
 /// What makes one doubt an attempt that is solved by what stands beside its solution: that two steps are another attempt, or
@@ -256,13 +261,13 @@ pub(crate) fn doubt_beside(
     scramble: &[u8],
     out: &mut [u8],
     places: &mut [u64],
-) -> Option<Doubt>
-    ensures is { IfSome result (λ told. IsDoubtBeside (list_any is_long_other lines.now) text.now lines.now scramble.now told) }
-    ensures room { most_bytes lines.now ≤ length out.old → most_bytes lines.now ≤ length places.old → IsSome result }
+) -> Result<Option<Doubt>, NoRoom>
+    ensures is { IfOk result (λ told. IsDoubtBeside (list_any is_long_other lines.now) text.now lines.now scramble.now told) }
+    ensures room { IsOkIfRoom (most_bytes lines.now) out.old places.old result }
 {
     if has_long_other(lines) {
         doubt_of_long(text, lines, scramble, out, places)
     } else {
-        Some(Doubt::none())
+        Ok(None)
     }
 }

@@ -2,7 +2,7 @@
 ghost use Rattle.std.specs.Prelude.{◌≡◌, ◌≢◌, ◌≤◌, MatchOption, length};
 ghost use Rattle.niss_embed.specs.BestWays.{FindsBest, IsInRange, IsWish, Tells, WritesLineAfter, WritesTurns};
 ghost use Rattle.niss_embed.specs.TwoLines.{both_of};
-ghost use Rattle.niss_embed.specs.LineCalls.{status_number};
+ghost use Rattle.niss_embed.specs.LineCalls.{enough_bytes, status_number};
 ghost use Rattle.niss_embed.specs.Memory.{memory};
 ghost use Rattle.niss_embed.specs.declared.answer.Status.TheVariants.{NoRoom};
 
@@ -80,7 +80,7 @@ pub fn best_ways<A: Allocator>(
 /// Writes the line of where one stands, cleaned, if other calls read as many turns.
 fn put_line(start: &Start, out: &mut [u8]) -> LineAfterAnswer
     ensures does { WritesTurns start.now.line (memory out.old out.new) result }
-    ensures room { 2048 ≤ length out.old → result.status ≢ status_number NoRoom }
+    ensures room { enough_bytes ≤ length out.old → result.status ≢ status_number NoRoom }
 {
     let Some(turns) = start.clean_line() else {
         return LineAfterAnswer::nowhere(Nowhere::TooMany);
@@ -95,7 +95,7 @@ fn put_line(start: &Start, out: &mut [u8]) -> LineAfterAnswer
 /// line has a fault, or both have too many moves; 2,048 bytes are enough.
 pub fn line_after(scramble: &[u8], so_far: &[u8], out: &mut [u8]) -> LineAfterAnswer
     ensures does { WritesLineAfter (both_of scramble.now so_far.now) (memory out.old out.new) result }
-    ensures room { 2048 ≤ length out.old → result.status ≢ status_number NoRoom }
+    ensures room { enough_bytes ≤ length out.old → result.status ≢ status_number NoRoom }
 {
     match start_after(scramble, so_far) {
         Ok(start) => put_line(&start, out),

@@ -2,7 +2,7 @@
 ghost use Rattle.std.specs.Prelude.{◌≡◌, ◌<◌, ◌≤◌, ◌+◌, ℕ, List, ◌++◌, length, map, true};
 ghost use Rattle.niss_moves.specs.Reader.{IsFed};
 ghost use Rattle.niss_embed.specs.DeadSteps.{AreParted, EndsWhole, IsDead, IsShut, IsStopped, StandsNowhere, after_byte, after_bytes, after_closing, after_opening};
-ghost use Rattle.niss_embed.specs.Parts.{read_byte};
+ghost use Rattle.niss_embed.specs.Parts.{read_byte, most_step_bytes};
 
 use crate::step_reading::Reading;
 use crate::stretch::stretch;
@@ -26,7 +26,7 @@ fn stops(reader: &mut LineReader, steps: &[u8], reading: Reading) -> bool
 /// Whether a step can't be read after whole moves, neither outside brackets nor in one.
 #[inline(never)]
 fn is_dead(step: &[u8], reading: Reading) -> bool
-    requires room { length step.now ≤ 65536 }
+    requires room { length step.now ≤ most_step_bytes }
     ensures { result ≡ true → IsDead (map (read_byte reading) step.now) }
 {
     let mut reader = LineReader::new();
@@ -109,7 +109,7 @@ fn is_shut(step: &[u8], reading: Reading) -> bool
 
 /// Whether no line of steps in which a step stands can be read. It is asked of one that is no line.
 pub fn stands_nowhere(step: &[u8], reading: Reading) -> bool
-    requires room { length step.now ≤ 65536 }
+    requires room { length step.now ≤ most_step_bytes }
     ensures { result ≡ true → StandsNowhere (map (read_byte reading) step.now) }
 {
     is_dead(step, reading) || is_shut(step, reading)

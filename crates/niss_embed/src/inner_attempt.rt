@@ -1,12 +1,15 @@
 //! Another attempt that stands within one that isn't solved: a step that is its scramble, and its solution after that.
-ghost use Rattle.std.specs.Prelude.{◌≡◌, ◌≤◌, ◌<◌, ◌+◌, ◌-◌, ◌*◌, ◌&&◌, [], ◌∷◌, IfSome, IsSome, length, nat_lt};
+ghost use Rattle.std.specs.Prelude.{◌≡◌, ◌≤◌, ◌<◌, ◌+◌, ◌-◌, ◌&&◌, [], ◌∷◌, IfOk, length, nat_lt};
 ghost use Rattle.niss_text.specs.Moves.{most_bytes};
+ghost use Rattle.niss_embed.specs.Another.{most_lines_tried};
 ghost use Rattle.niss_embed.specs.InnerAttempt.{IsBegunIn, IsBegunWithin, is_long_line, may_be_scramble};
+ghost use Rattle.niss_embed.specs.Doubts.{IsOkIfRoom};
 
 use crate::another::{MOST_TRIED, is_long, is_solved_by};
-use crate::attempts::{Doubt, OF_EACH_STEP, moves_of};
+use crate::doubts::Doubt;
 use crate::step_lines::{has_solution, is_step};
-use niss_text::TextLine;
+use crate::written::{NoRoom, moves_of};
+use niss_text::{MovesOf, TextLine};
 use std::slice::from_ref;
 
 /// Whether a line is a step that may be a scramble.
@@ -19,7 +22,7 @@ fn is_long_line(line: &TextLine) -> bool
 /// Whether such a step is tried, after so many that are.
 fn is_tried(tried: usize, lines: &[TextLine], at: usize) -> bool
     requires { at < length lines.now }
-    ensures { result ≡ (nat_lt tried 12 && may_be_scramble lines.now at) }
+    ensures { result ≡ (nat_lt tried most_lines_tried && may_be_scramble lines.now at) }
 {
     tried < MOST_TRIED && is_long_line(&lines[at])
 }
@@ -35,15 +38,20 @@ fn room_of(line: &TextLine, room: usize) -> usize
 }
 
 /// Whether lines of the solution after the first of some lines solve its moves, as a scramble. The rooms are for both.
-fn is_begun_in(text: &[u8], lines: &[TextLine], out: &mut [u8], places: &mut [u64]) -> Option<bool>
-    ensures is { IfSome result (λ solves. IsBegunIn text.now lines.now solves) }
-    ensures room { most_bytes lines.now ≤ length out.old → most_bytes lines.now ≤ length places.old → IsSome result }
+fn is_begun_in(
+    text: &[u8],
+    lines: &[TextLine],
+    out: &mut [u8],
+    places: &mut [u64],
+) -> Result<bool, NoRoom>
+    ensures is { IfOk result (λ solves. IsBegunIn text.now lines.now solves) }
+    ensures room { IsOkIfRoom (most_bytes lines.now) out.old places.old result }
 {
     let Some((line, rest)) = lines.split_first() else {
-        return Some(false);
+        return Ok(false);
     };
     if !has_solution(rest) {
-        return Some(false);
+        return Ok(false);
     }
     let room = room_of(line, out.len().min(places.len()));
     let (scramble, out) = out.split_at_mut(room);
@@ -51,7 +59,7 @@ fn is_begun_in(text: &[u8], lines: &[TextLine], out: &mut [u8], places: &mut [u6
     let count = moves_of(
         text,
         from_ref(line),
-        OF_EACH_STEP,
+        MovesOf::EachStep,
         scramble,
         scramble_places,
     )?;
@@ -65,9 +73,9 @@ pub(crate) fn doubt_within(
     lines: &[TextLine],
     out: &mut [u8],
     places: &mut [u64],
-) -> Option<Doubt>
-    ensures is { IfSome result (λ told. IsBegunWithin text.now lines.now told) }
-    ensures room { most_bytes lines.now ≤ length out.old → most_bytes lines.now ≤ length places.old → IsSome result }
+) -> Result<Option<Doubt>, NoRoom>
+    ensures is { IfOk result (λ told. IsBegunWithin text.now lines.now told) }
+    ensures room { IsOkIfRoom (most_bytes lines.now) out.old places.old result }
 {
     let mut tried = 0;
     for at in 0..lines.len() {
@@ -76,8 +84,8 @@ pub(crate) fn doubt_within(
         }
         tried += 1;
         if is_begun_in(text, &lines[at..], out, places)? {
-            return Some(Doubt::begun_in(&lines[at..]));
+            return Ok(Doubt::begun_in(&lines[at..]));
         }
     }
-    Some(Doubt::none())
+    Ok(None)
 }

@@ -1,31 +1,25 @@
 //! Whether what stands in a part of a text of solutions solves the scramble that is known of it.
-ghost use Rattle.std.specs.Prelude.{◌≡◌, ◌≤◌, ◌<◌, ◌*◌, ◌↔◌, IfSome, IsSome, IsTrue, MatchOption, ℕ, List, [], length, slice_range};
+ghost use Rattle.std.specs.Prelude.{◌≡◌, ◌≤◌, ◌<◌, ◌*◌, ◌↔◌, IfOk, IsOk, IsTrue, MatchOption, ℕ, List, [], length, slice_range};
 ghost use Rattle.niss_text.specs.Moves.{most_bytes};
 ghost use Rattle.niss_shell.specs.Output.{line_text};
 ghost use Rattle.niss_shell.specs.declared.command.Rewriting.TheVariants.{Print};
 ghost use Rattle.niss_embed.specs.Attempts.{IsSameCube, IsFound, IsAlone, IsMeant, IsBeside, IsOfKnown, scramble_of, begin_of, below_or_none};
 ghost use Rattle.niss_embed.specs.LineFacts.{IsReadAs};
 ghost use Rattle.niss_embed.specs.Attempts.{IsTried, attempts_from, elsewhere, is_open, solves_known, solves_some};
+ghost use Rattle.niss_embed.specs.Doubts.{IsOkIfRoom};
 
-use crate::attempts::{
-    Doubt, Given, NONE, OF_SCRAMBLE, OF_SOLUTION, check_by, check_own, first_doubt, moves_of,
-    place_at,
-};
+use crate::attempts::{Given, check_by, check_own};
+use crate::doubts::{Doubt, Reason, first_doubt};
 use crate::judged::Judged;
 use crate::line_facts::is_solved;
 use crate::line_texts::read_by;
 use crate::runs::{Placed, Run, next_run};
 use crate::step_lines::has_solution;
 use crate::stretch::stretch;
+use crate::written::{NONE, NoRoom, moves_of, place_at};
 use niss_moves::{LineReader, LineText, Niss};
 use niss_shell::{MOST_BYTES, Rewriting, rewrite};
-use niss_text::TextLine;
-
-/// The doubt that a part has another scramble.
-const ANOTHER_SCRAMBLE: u8 = 1;
-
-/// The doubt that it can't be seen which scramble a part is a solution of.
-pub(crate) const WHICH_SCRAMBLE: u8 = 10;
+use niss_text::{MovesOf, TextLine};
 
 /// With how many known scrambles a solution is tried that doesn't solve its own.
 const MOST_TRIED: usize = 64;
@@ -149,12 +143,12 @@ fn found_in(
     scramble: &[u8],
     out: &mut [u8],
     places: &mut [u64],
-) -> Option<Found>
-    ensures is { IfSome result (λ it. IsFound text.now lines.now scramble.now it) }
-    ensures room { most_bytes lines.now ≤ length out.old → most_bytes lines.now ≤ length places.old → IsSome result }
+) -> Result<Found, NoRoom>
+    ensures is { IfOk result (λ it. IsFound text.now lines.now scramble.now it) }
+    ensures room { IsOkIfRoom (most_bytes lines.now) out.old places.old result }
 {
-    let count = moves_of(text, lines, OF_SCRAMBLE, out, places)?;
-    Some(Found {
+    let count = moves_of(text, lines, MovesOf::Scramble, out, places)?;
+    Ok(Found {
         is_same: is_same_cube(scramble, &out[..count]),
         at: place_at(&places[..count], 0),
     })
@@ -175,24 +169,32 @@ pub struct Solution<'a> {
 
 impl Solution<'_> {
     /// What is said of it once it was judged by its scramble: if another one may be meant, whether it solves one.
-    fn tried(&self, judged: Judged, out: &mut [u8], places: &mut [u64]) -> Option<Judged>
-        ensures is { IfSome result (λ it. IsTried (is_open judged) self.now.text.now self.now.own.now (elsewhere self.now.known self.now.begin) judged it) }
-        ensures room { most_bytes self.now.own.now ≤ length out.old → most_bytes self.now.own.now ≤ length places.old → IsSome result }
+    fn tried(&self, judged: Judged, out: &mut [u8], places: &mut [u64]) -> Result<Judged, NoRoom>
+        ensures is { IfOk result (λ it. IsTried (is_open judged) self.now.text.now self.now.own.now (elsewhere self.now.known self.now.begin) judged it) }
+        ensures room { IsOkIfRoom (most_bytes self.now.own.now) out.old places.old result }
     {
         if !judged.is_open() {
-            return Some(judged);
+            return Ok(judged);
         }
-        let count = moves_of(self.text, self.own, OF_SOLUTION, out, places)?;
+        let count = moves_of(self.text, self.own, MovesOf::Solution, out, places)?;
         if self.known.is_one_solved_by(&out[..count]) {
-            return Some(judged.in_doubt(WHICH_SCRAMBLE, self.begin));
+            return Ok(judged.in_doubt(Doubt {
+                reason: Reason::WhichScramble,
+                at: self.begin,
+            }));
         }
-        Some(judged)
+        Ok(judged)
     }
 
     /// What is said of it by its own lines.
-    fn alone(&self, doubt: Doubt, out: &mut [u8], places: &mut [u64]) -> Option<Placed>
-        ensures is { IfSome result (λ it. IsAlone self.now.text.now self.now.own.now self.now.lines self.now.scramble.now (elsewhere self.now.known self.now.begin) doubt it) }
-        ensures room { most_bytes self.now.own.now ≤ length out.old → most_bytes self.now.own.now ≤ length places.old → IsSome result }
+    fn alone(
+        &self,
+        doubt: Option<Doubt>,
+        out: &mut [u8],
+        places: &mut [u64],
+    ) -> Result<Placed, NoRoom>
+        ensures is { IfOk result (λ it. IsAlone self.now.text.now self.now.own.now self.now.lines self.now.scramble.now (elsewhere self.now.known self.now.begin) doubt it) }
+        ensures room { IsOkIfRoom (most_bytes self.now.own.now) out.old places.old result }
     {
         let given = Given {
             scramble: self.scramble,
@@ -201,7 +203,7 @@ impl Solution<'_> {
         };
         let judged = check_by(self.text, self.own, &given, out, places)?;
         let judged = self.tried(judged, out, places)?;
-        Some(Placed {
+        Ok(Placed {
             lines: self.lines,
             judged,
         })
@@ -215,30 +217,36 @@ impl Solution<'_> {
         is_meant: bool,
         out: &mut [u8],
         places: &mut [u64],
-    ) -> Option<Placed>
-        ensures is { IfSome result (λ it. IsMeant is_meant self.now.text.now self.now.own.now self.now.others.now self.now.lines run self.now.scramble.now (elsewhere self.now.known self.now.begin) found it) }
+    ) -> Result<Placed, NoRoom>
+        ensures is { IfOk result (λ it. IsMeant is_meant self.now.text.now self.now.own.now self.now.others.now self.now.lines run self.now.scramble.now (elsewhere self.now.known self.now.begin) found it) }
         ensures room { 2 * most_bytes self.now.own.now ≤ length out.old → 2 * most_bytes self.now.own.now ≤ length places.old →
             2 * most_bytes (slice_range self.now.others.now run.first run.end) ≤ length out.old →
-            2 * most_bytes (slice_range self.now.others.now run.first run.end) ≤ length places.old → IsSome result }
+            2 * most_bytes (slice_range self.now.others.now run.first run.end) ≤ length places.old → IsOk result }
     {
         if !is_meant {
             let doubt = Doubt {
-                reason: ANOTHER_SCRAMBLE,
+                reason: Reason::AnotherScramble,
                 at: found.at,
             };
-            return self.alone(doubt, out, places);
+            return self.alone(Some(doubt), out, places);
         }
         let lines = stretch(self.others, run.first, run.end);
         let judged = check_own(self.text, lines, out, places)?;
-        Some(Placed { lines: run, judged })
+        Ok(Placed { lines: run, judged })
     }
 
     /// What is said of it beside an attempt that has a scramble, the only one or not.
-    fn beside(&self, run: Run, is_only: bool, out: &mut [u8], places: &mut [u64]) -> Option<Placed>
-        ensures is { IfSome result (λ it. IsBeside self.now.text.now self.now.own.now self.now.others.now self.now.lines self.now.scramble.now (elsewhere self.now.known self.now.begin) run is_only it) }
+    fn beside(
+        &self,
+        run: Run,
+        is_only: bool,
+        out: &mut [u8],
+        places: &mut [u64],
+    ) -> Result<Placed, NoRoom>
+        ensures is { IfOk result (λ it. IsBeside self.now.text.now self.now.own.now self.now.others.now self.now.lines self.now.scramble.now (elsewhere self.now.known self.now.begin) run is_only it) }
         ensures room { 2 * most_bytes self.now.own.now ≤ length out.old → 2 * most_bytes self.now.own.now ≤ length places.old →
             2 * most_bytes (slice_range self.now.others.now run.first run.end) ≤ length out.old →
-            2 * most_bytes (slice_range self.now.others.now run.first run.end) ≤ length places.old → IsSome result }
+            2 * most_bytes (slice_range self.now.others.now run.first run.end) ≤ length places.old → IsOk result }
     {
         let lines = stretch(self.others, run.first, run.end);
         let found = found_in(self.text, lines, self.scramble, out, places)?;
@@ -248,12 +256,17 @@ impl Solution<'_> {
 
     /// What is said of it, with the attempts from a line on that have a scramble.
     #[tactic(auto, using(crate::proofs::AttemptLemmas::most_between))]
-    pub(crate) fn check(&self, from: usize, out: &mut [u8], places: &mut [u64]) -> Option<Placed>
+    pub(crate) fn check(
+        &self,
+        from: usize,
+        out: &mut [u8],
+        places: &mut [u64],
+    ) -> Result<Placed, NoRoom>
         requires { from ≤ length self.now.others.now }
-        ensures is { IfSome result (λ it. IsOfKnown self.now.text.now self.now.own.now self.now.others.now self.now.lines self.now.scramble.now
+        ensures is { IfOk result (λ it. IsOfKnown self.now.text.now self.now.own.now self.now.others.now self.now.lines self.now.scramble.now
             (elsewhere self.now.known self.now.begin) (attempts_from from self.now.others.now) it) }
         ensures room { 2 * most_bytes self.now.own.now ≤ length out.old → 2 * most_bytes self.now.own.now ≤ length places.old →
-            2 * most_bytes self.now.others.now ≤ length out.old → 2 * most_bytes self.now.others.now ≤ length places.old → IsSome result }
+            2 * most_bytes self.now.others.now ≤ length out.old → 2 * most_bytes self.now.others.now ≤ length places.old → IsOk result }
     {
         match next_run(self.others, from) {
             None => self.alone(first_doubt(self.own), out, places),

@@ -32,6 +32,7 @@ mod best;
 mod call;
 mod corners;
 mod dead_steps;
+mod doubts;
 mod fact_answers;
 mod holds;
 mod inner_attempt;
@@ -65,6 +66,7 @@ mod two_lines;
 mod ways_answer;
 mod whole_doubt;
 mod whole_steps;
+mod written;
 
 pub use answer::{Answer, LineAnswer, Status};
 pub use attempt_checks::{AttemptCheck, Attempts, AttemptsAnswer, check_attempts};

@@ -5,7 +5,7 @@ ghost use Rattle.std.specs.Option.{option_copied};
 ghost use Rattle.niss_moves.specs.Reader.{IsFed, read_line};
 ghost use Rattle.niss_shell.specs.Output.{line_text};
 ghost use Rattle.niss_shell.specs.Words.{most_bytes};
-ghost use Rattle.niss_embed.specs.LineCalls.{status_number, Does, Rewrites, outcome_of_text, outcome_of_scramble};
+ghost use Rattle.niss_embed.specs.LineCalls.{enough_bytes, status_number, Does, Rewrites, outcome_of_text, outcome_of_scramble};
 ghost use Rattle.niss_embed.specs.LineCalls.{outcome_of_steps, outcome_of_start, outcome_of_some, fault_text_of};
 ghost use Rattle.niss_embed.specs.declared.answer.Status.TheVariants.{NoRoom};
 
@@ -34,7 +34,7 @@ pub(crate) fn read_by<'a>(reader: &'a mut LineReader, line: &[u8]) -> Result<&'a
 /// Writes the text of a line's moves, without the line feed.
 fn put_rewritten(rewriting: Rewriting, line: &Niss, out: &mut [u8]) -> LineAnswer
     ensures does { Does (outcome_of_text (length out.old) (line_text rewriting line.now)) out.old out.new result }
-    ensures room { 2048 ≤ length out.old → result.status ≢ status_number NoRoom }
+    ensures room { enough_bytes ≤ length out.old → result.status ≢ status_number NoRoom }
 {
     let mut text = LineText::new();
     rewrite(rewriting, line, &mut text);
@@ -47,7 +47,7 @@ fn put_rewritten(rewriting: Rewriting, line: &Niss, out: &mut [u8]) -> LineAnswe
 #[inline(never)]
 pub fn rewrite_line(rewriting: Rewriting, line: &[u8], out: &mut [u8]) -> LineAnswer
     ensures does { Rewrites rewriting line.now out.old out.new result }
-    ensures room { 2048 ≤ length out.old → result.status ≢ status_number NoRoom }
+    ensures room { enough_bytes ≤ length out.old → result.status ≢ status_number NoRoom }
 {
     if line.len() > MOST_BYTES {
         return LineAnswer::too_long();
@@ -63,7 +63,7 @@ pub fn rewrite_line(rewriting: Rewriting, line: &[u8], out: &mut [u8]) -> LineAn
 /// feed.
 pub fn scramble(state: u64, stream: u64, turns: u32, out: &mut [u8]) -> LineAnswer
     ensures does { Does (outcome_of_scramble (length out.old) state stream turns) out.old out.new result }
-    ensures room { 2048 ≤ length out.old → result.status ≢ status_number NoRoom }
+    ensures room { enough_bytes ≤ length out.old → result.status ≢ status_number NoRoom }
 {
     if turns > MOST_TURNS {
         return LineAnswer::misused();
@@ -77,7 +77,7 @@ pub fn scramble(state: u64, stream: u64, turns: u32, out: &mut [u8]) -> LineAnsw
 /// Writes the names of the steps, each with its line feed.
 pub fn step_names(out: &mut [u8]) -> LineAnswer
     ensures does { Does (outcome_of_steps (length out.old)) out.old out.new result }
-    ensures room { 2048 ≤ length out.old → result.status ≢ status_number NoRoom }
+    ensures room { enough_bytes ≤ length out.old → result.status ≢ status_number NoRoom }
 {
     let mut text = LineText::new();
     set_steps(&mut text);
@@ -88,7 +88,7 @@ pub fn step_names(out: &mut [u8]) -> LineAnswer
 #[tactic(auto, using(crate::proofs::TextLemmas::start_has_room))]
 pub fn start_name(name: &[u8], out: &mut [u8]) -> LineAnswer
     ensures does { Does (outcome_of_start (length out.old) name.now) out.old out.new result }
-    ensures room { 2048 ≤ length out.old → result.status ≢ status_number NoRoom }
+    ensures room { enough_bytes ≤ length out.old → result.status ≢ status_number NoRoom }
 {
     let Some(step) = step_named(name) else {
         return LineAnswer::misused();
@@ -119,7 +119,7 @@ fn text_of_fault(number: u8) -> Option<&'static str>
 #[tactic(auto, using(crate::proofs::TextLemmas::fault_has_room))]
 pub fn fault_text(number: u8, out: &mut [u8]) -> LineAnswer
     ensures does { Does (outcome_of_some (length out.old) (fault_text_of number)) out.old out.new result }
-    ensures room { 2048 ≤ length out.old → result.status ≢ status_number NoRoom }
+    ensures room { enough_bytes ≤ length out.old → result.status ≢ status_number NoRoom }
 {
     match text_of_fault(number) {
         Some(text) => LineAnswer::put(text.as_bytes(), out),

@@ -6,7 +6,7 @@ ghost use Rattle.niss_embed.specs.Corners.{IsAroundBorder};
 ghost use Rattle.niss_embed.specs.LostTurn.{IsLostAt, IsLostIn, solves_with_turn};
 ghost use Rattle.niss_embed.specs.ShownTurn.{shown_between};
 
-use crate::attempts::Doubt;
+use crate::doubts::Doubt;
 use crate::shown_turn::Border;
 use crate::step_corners::{Around, corners_of_step};
 use crate::step_reading::Reading;
@@ -38,7 +38,7 @@ fn lost_by(whole: &WholeSteps, around: &Option<Around>, border: &Border) -> Opti
     requires number { border.now.number < length whole.now.bounds.now }
     requires around { IfSome around.now (IsAroundBorder whole.now.scramble.now whole.now.steps.now whole.now.bounds.now border.now.number) }
     ensures { IsLostAt (Ok whole.now.scramble.now) whole.now.steps.now whole.now.bounds.now border.now.number
-        (shown_between border.now.text.now border.now.behind border.now.before border.now.has_one_sign) result }
+        (shown_between border.now.text.now border.now.above border.now.below border.now.has_one_sign) result }
 {
     if !border.may_show() {
         return None;
@@ -63,7 +63,7 @@ fn lost_at(whole: &WholeSteps, border: &Border) -> Option<Doubt>
     requires whole { AreWhole whole.now }
     requires number { border.now.number < length whole.now.bounds.now }
     ensures { IsLostAt (Ok whole.now.scramble.now) whole.now.steps.now whole.now.bounds.now border.now.number
-        (shown_between border.now.text.now border.now.behind border.now.before border.now.has_one_sign) result }
+        (shown_between border.now.text.now border.now.above border.now.below border.now.has_one_sign) result }
 {
     if border.number + 1 >= whole.bounds.len() || border.sign().is_none() {
         return lost_by(whole, &None, border);

@@ -1,18 +1,19 @@
 //! Steps of an attempt that solve once one of them stands elsewhere.
-ghost use Rattle.std.specs.Prelude.{◌≡◌, ◌<◌, ◌≤◌, ◌+◌, ◌++◌, ◌&&◌, ℕ, List, Ok, false, true, length, map};
+ghost use Rattle.std.specs.Prelude.{◌≡◌, ◌<◌, ◌+◌, ◌++◌, ℕ, List, Ok, false, true, length, map};
 ghost use Rattle.niss_moves.specs.Reader.{IsFed};
 ghost use Rattle.niss_embed.specs.Between.{AreWhole};
-ghost use Rattle.niss_embed.specs.Corners.{Reads};
-ghost use Rattle.niss_embed.specs.MovedStep.{IsMovedAt, IsMovedIn, IsWithin, exchange_of, is_elsewhere, solves_exchanged, solves_moved, with_blank};
-ghost use Rattle.niss_embed.specs.Parts.{read_byte, steps_line};
+ghost use Rattle.niss_embed.specs.MovedStep.{AreFronts, AreStretches, IsMovedAmong, IsMovedAt, IsMovedIn, IsWithin, solves_exchanged, solves_moved, with_blank};
+ghost use Rattle.niss_embed.specs.Parts.{read_byte};
 ghost use Rattle.niss_embed.specs.declared.step_reading.Reading.TheVariants.{AsWritten};
 
-use crate::attempts::Doubt;
+use crate::doubts::Doubt;
+use crate::step_bounds::MOST_BOUNDS;
 use crate::step_corners::StepCorners;
 use crate::step_reading::{Reading, feed, solves_so};
 use crate::stretch::stretch;
 use crate::turned_cube::doubt_at;
 use crate::whole_steps::WholeSteps;
+use arrayvec::ArrayVec;
 use niss_moves::LineReader;
 use niss_text::TextLine;
 
@@ -21,37 +22,16 @@ use niss_text::TextLine;
 pub struct Exchange {
     pub first: usize,
     pub middle: usize,
-    pub behind: usize,
+    pub last: usize,
 }
 
-impl Exchange {
-    /// That of a step which is moved before the one of a number.
-    fn of(step: usize, place: usize) -> Exchange
-        requires { step < 13 }
-        ensures { result ≡ exchange_of step place }
-    {
-        if place < step {
-            Exchange {
-                first: place,
-                middle: step,
-                behind: step + 1,
-            }
-        } else {
-            Exchange {
-                first: step,
-                middle: step + 1,
-                behind: place,
-            }
-        }
-    }
-}
-
-/// Whether a step that is moved before the one of a number stands elsewhere than before.
-fn is_elsewhere(step: usize, place: usize) -> bool
-    requires { step < 13 }
-    ensures { result ≡ is_elsewhere step place }
-{
-    !(place == step || place == step + 1)
+/// What the stretches of an exchange do to the corners: the steps before it, those that come to stand first, and those that
+/// come to stand after these.
+#[derive(Clone, Copy)]
+pub struct Stretches {
+    pub front: StepCorners,
+    pub early: StepCorners,
+    pub late: StepCorners,
 }
 
 /// Has a reader read steps, and a blank.
@@ -64,32 +44,32 @@ fn feed_with_blank(reader: &mut LineReader, steps: &[u8])
     reader.feed_all(b" ");
 }
 
-/// What the steps from one place to another do to the corners.
-fn corners_between(whole: &WholeSteps, first: usize, behind: usize) -> StepCorners
+/// What the steps before each place do to the corners.
+fn fronts_of(whole: &WholeSteps) -> ArrayVec<StepCorners, MOST_BOUNDS>
     requires whole { AreWhole whole.now }
-    requires ordered { (first ≤ behind) × (behind < length whole.now.bounds.now) }
-    ensures { whole.now.corners.now.are_lines ≡ true → Reads (steps_line whole.now.steps.now whole.now.bounds.now first behind) result }
+    ensures { AreFronts whole.now result.items }
 {
-    let mut corners = StepCorners::nothing();
-    for step in first..behind {
-        corners = corners.then(&whole.corners.steps[step]);
+    let mut front = StepCorners::nothing();
+    let mut fronts = ArrayVec::new();
+    fronts.push(front);
+    for step in 0..whole.bounds.len() - 1 {
+        front = front.then(&whole.corners.steps[step]);
+        fronts.push(front);
     }
-    corners
+    fronts
 }
 
 /// Whether all steps may solve if some change places, by what they do to the corners.
-fn may_solve(whole: &WholeSteps, exchange: &Exchange) -> bool
+fn may_solve(whole: &WholeSteps, exchange: &Exchange, stretches: &Stretches) -> bool
     requires whole { AreWhole whole.now }
     requires within { IsWithin whole.now.bounds.now exchange.now }
+    requires stretches { whole.now.corners.now.are_lines ≡ true → AreStretches whole.now.steps.now whole.now.bounds.now exchange.now stretches.now }
     ensures { result ≡ false → solves_exchanged (Ok whole.now.scramble.now) whole.now.steps.now whole.now.bounds.now exchange.now ≡ false }
 {
-    let front = corners_between(whole, 0, exchange.first);
-    let early = corners_between(whole, exchange.middle, exchange.behind);
-    let late = corners_between(whole, exchange.first, exchange.middle);
-    let rest = whole.corners.tails[exchange.behind];
-    let last = late.with_later(&rest, false);
-    let later = early.with_later(&last, false);
-    let all = front.with_later(&later, false);
+    let rest = whole.corners.tails[exchange.last];
+    let last = stretches.late.with_later(&rest, false);
+    let later = stretches.early.with_later(&last, false);
+    let all = stretches.front.with_later(&later, false);
     whole.corners.may_solve(&all)
 }
 
@@ -102,42 +82,95 @@ fn solve(whole: &WholeSteps, exchange: &Exchange) -> bool
     let bounds = whole.bounds;
     let first = bounds[exchange.first];
     let middle = bounds[exchange.middle];
-    let behind = bounds[exchange.behind];
+    let last = bounds[exchange.last];
     let mut reader = LineReader::new();
     feed_with_blank(&mut reader, stretch(whole.steps, bounds[0], first));
-    feed_with_blank(&mut reader, stretch(whole.steps, middle, behind));
+    feed_with_blank(&mut reader, stretch(whole.steps, middle, last));
     feed_with_blank(&mut reader, stretch(whole.steps, first, middle));
-    let rest = stretch(whole.steps, behind, bounds[bounds.len() - 1]);
+    let rest = stretch(whole.steps, last, bounds[bounds.len() - 1]);
     feed(&mut reader, rest, Reading::AsWritten);
     solves_so(whole.scramble, &mut reader)
 }
 
-/// Whether all steps solve with one before that of a number, or after the last one, if that is elsewhere.
-fn solve_moved(whole: &WholeSteps, step: usize, place: usize) -> bool
+/// The same. Most exchanges are seen not to solve by what they do to the corners.
+fn solve_exchanged(whole: &WholeSteps, exchange: &Exchange, stretches: &Stretches) -> bool
     requires whole { AreWhole whole.now }
-    requires step { step + 1 < length whole.now.bounds.now }
-    requires place { place < length whole.now.bounds.now }
-    ensures { result ≡ solves_moved (Ok whole.now.scramble.now) whole.now.steps.now whole.now.bounds.now step place }
+    requires within { IsWithin whole.now.bounds.now exchange.now }
+    requires stretches { whole.now.corners.now.are_lines ≡ true → AreStretches whole.now.steps.now whole.now.bounds.now exchange.now stretches.now }
+    ensures { result ≡ solves_exchanged (Ok whole.now.scramble.now) whole.now.steps.now whole.now.bounds.now exchange.now }
 {
-    if !is_elsewhere(step, place) {
-        return false;
-    }
-    let exchange = Exchange::of(step, place);
-    may_solve(whole, &exchange) && solve(whole, &exchange)
+    may_solve(whole, exchange, stretches) && solve(whole, exchange)
 }
 
-/// Whether they solve with this one elsewhere.
-fn is_moved_at(whole: &WholeSteps, step: usize) -> bool
+/// Whether all steps solve with one further up, but not right before the one above it.
+fn is_moved_up(whole: &WholeSteps, fronts: &[StepCorners], step: usize) -> bool
     requires whole { AreWhole whole.now }
+    requires fronts { AreFronts whole.now fronts.now }
     requires step { step + 1 < length whole.now.bounds.now }
-    ensures { IsMovedAt (Ok whole.now.scramble.now) whole.now.steps.now whole.now.bounds.now step result }
+    ensures { IsMovedAmong (λ place. place + 1 < step) (Ok whole.now.scramble.now) whole.now.steps.now whole.now.bounds.now step result }
 {
-    for place in 0..whole.bounds.len() {
-        if solve_moved(whole, step, place) {
+    if step == 0 {
+        return false;
+    }
+    let steps = &whole.corners.steps;
+    let mut late = steps[step - 1];
+    for place in (0..step - 1).rev() {
+        late = steps[place].then(&late);
+        let exchange = Exchange {
+            first: place,
+            middle: step,
+            last: step + 1,
+        };
+        let stretches = Stretches {
+            front: fronts[place],
+            early: steps[step],
+            late,
+        };
+        if solve_exchanged(whole, &exchange, &stretches) {
             return true;
         }
     }
     false
+}
+
+/// Whether they solve with it further down.
+fn is_moved_down(whole: &WholeSteps, fronts: &[StepCorners], step: usize) -> bool
+    requires whole { AreWhole whole.now }
+    requires fronts { AreFronts whole.now fronts.now }
+    requires step { step + 1 < length whole.now.bounds.now }
+    ensures { IsMovedAmong (λ place. (step + 1 < place) × (place < length whole.now.bounds.now)) (Ok whole.now.scramble.now) whole.now.steps.now whole.now.bounds.now step result }
+{
+    let steps = &whole.corners.steps;
+    let mut early = StepCorners::nothing();
+    for above in step + 1..whole.bounds.len() - 1 {
+        early = early.then(&steps[above]);
+        let exchange = Exchange {
+            first: step,
+            middle: step + 1,
+            last: above + 1,
+        };
+        let stretches = Stretches {
+            front: fronts[step],
+            early,
+            late: steps[step],
+        };
+        if solve_exchanged(whole, &exchange, &stretches) {
+            return true;
+        }
+    }
+    false
+}
+
+/// Whether they solve with it elsewhere. With it before the one right above it they don't, since with that one after it they
+/// don't, which is the same.
+fn is_moved_at(whole: &WholeSteps, fronts: &[StepCorners], step: usize) -> bool
+    requires whole { AreWhole whole.now }
+    requires fronts { AreFronts whole.now fronts.now }
+    requires step { step + 1 < length whole.now.bounds.now }
+    requires asked { (above : ℕ) → above + 1 ≡ step → solves_moved (Ok whole.now.scramble.now) whole.now.steps.now whole.now.bounds.now above (step + 1) ≡ false }
+    ensures { IsMovedAt (Ok whole.now.scramble.now) whole.now.steps.now whole.now.bounds.now step result }
+{
+    is_moved_up(whole, fronts, step) || is_moved_down(whole, fronts, step)
 }
 
 /// The doubt that the moves of a step belong elsewhere: that all steps solve once it stands before another one, or after the
@@ -146,8 +179,9 @@ pub fn moved_step(whole: &WholeSteps, lines: &[TextLine]) -> Option<Doubt>
     requires whole { AreWhole whole.now }
     ensures { IsMovedIn (Ok whole.now.scramble.now) whole.now.steps.now whole.now.bounds.now lines.now result }
 {
+    let fronts = fronts_of(whole);
     for step in 0..whole.bounds.len() - 1 {
-        if is_moved_at(whole, step) {
+        if is_moved_at(whole, &fronts, step) {
             return doubt_at(lines, step);
         }
     }

@@ -24,7 +24,7 @@ fn are_few(one: &[Turn], other: &[Turn]) -> bool
 }
 
 /// What follows the first turn of two sequences, if both begin with the same one.
-fn behind_same<'a>(one: &'a [Turn], other: &'a [Turn]) -> Option<(&'a [Turn], &'a [Turn])>
+fn after_same<'a>(one: &'a [Turn], other: &'a [Turn]) -> Option<(&'a [Turn], &'a [Turn])>
     ensures { MatchOption result (BeginSame one.now other.now → ⊥) (λ rests. (turn : Turn) × (one.now ≡ turn ∷ rests.0.now) × (other.now ≡ turn ∷ rests.1.now)) }
 {
     match (one.split_first(), other.split_first()) {
@@ -64,9 +64,9 @@ pub(crate) fn are_near(one: &[Turn], other: &[Turn]) -> bool
     ensures { IsTrue result ↔ AreNear one.now other.now }
 {
     let (mut rest, mut other_rest) = (one, other);
-    while let Some((behind, other_behind)) = behind_same(rest, other_rest) {
-        rest = behind;
-        other_rest = other_behind;
+    while let Some((after, other_after)) = after_same(rest, other_rest) {
+        rest = after;
+        other_rest = other_after;
     }
     are_near_at_begin(rest, other_rest)
 }

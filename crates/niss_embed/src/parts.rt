@@ -1,9 +1,10 @@
 //! Whether a part of the steps of an attempt solves its scramble.
-ghost use Rattle.std.specs.Prelude.{◌≡◌, ◌<◌, ◌≤◌, ◌+◌, ◌-◌, ◌++◌, ℕ, List, [], ◌∷◌, Ok, length, map, take};
+ghost use Rattle.std.specs.Prelude.{◌≡◌, ◌<◌, ◌≤◌, ◌+◌, ◌-◌, [], Ok, length, map, take};
 ghost use Rattle.niss_moves.specs.Reader.{IsFed, read_line};
-ghost use Rattle.niss_embed.specs.Parts.{read_byte, how_number, number_of_steps, arranged, solves_line, solves_all, solves_part, solves_repeated, solves_with, part};
+ghost use Rattle.niss_embed.specs.Parts.{read_byte, how_number, number_of_steps, arranged, solves_all, solves_part, solves_repeated, solves_with, part, most_step_bytes, most_bounds};
 ghost use Rattle.niss_shell.specs.Words.{most_bytes};
-ghost use Rattle.niss_embed.specs.Corners.{AreBounds, IsAttempt, IsAroundPart};
+ghost use Rattle.niss_embed.specs.Corners.{AreBounds, IsAroundPart};
+ghost use Rattle.niss_embed.specs.Between.{AreWhole};
 ghost use Rattle.niss_embed.specs.Parts.{IsHow, IsFirst, IsFirstFrom, IsFound, IsWithin, TellsPart, answer_of, no_part};
 ghost use Rattle.niss_embed.specs.declared.step_reading.Reading.TheVariants.{AsWritten};
 
@@ -15,6 +16,7 @@ use crate::step_corners::{Around, AttemptCorners};
 use crate::step_reading::{Reading, feed, solves_otherwise, solves_so};
 use crate::step_sets::{StepSet, feed_step, least_set};
 use crate::stretch::stretch;
+use crate::whole_steps::WholeSteps;
 use niss_moves::{LineReader, Niss};
 use niss_shell::MOST_BYTES;
 
@@ -68,7 +70,7 @@ pub struct Part {
     pub how: How,
     pub first: usize,
     /// The first step after them.
-    pub behind: usize,
+    pub end: usize,
 }
 
 /// What is found.
@@ -114,106 +116,89 @@ fn feed_part(reader: &mut LineReader, how: How, before: &[u8], own: &[u8], after
     }
 }
 
-/// Whether a part of steps, which begin and end at these places, solves a scramble.
-fn solves_part(scramble: &Niss, text: &[u8], bounds: &[usize], part: Part) -> bool
-    requires steps { (part.first < length bounds.now) × (part.behind < length bounds.now) }
-    requires room { length text.now ≤ 65536 }
-    ensures { result ≡ solves_part (Ok scramble.now) text.now bounds.now part }
+/// Whether a part of all steps solves the scramble.
+fn solves_part(whole: &WholeSteps, part: Part) -> bool
+    requires whole { AreWhole whole.now }
+    requires steps { (part.first < length whole.now.bounds.now) × (part.end < length whole.now.bounds.now) }
+    ensures { result ≡ solves_part (Ok whole.now.scramble.now) whole.now.steps.now whole.now.bounds.now part }
 {
-    let before = stretch(text, bounds[0], bounds[part.first]);
-    let own = stretch(text, bounds[part.first], bounds[part.behind]);
-    let after = stretch(text, bounds[part.behind], bounds[bounds.len() - 1]);
+    let bounds = whole.bounds;
+    let before = stretch(whole.steps, bounds[0], bounds[part.first]);
+    let own = stretch(whole.steps, bounds[part.first], bounds[part.end]);
+    let after = stretch(whole.steps, bounds[part.end], bounds[bounds.len() - 1]);
     let mut reader = LineReader::new();
     feed_part(&mut reader, part.how, before, own, after);
-    solves_so(scramble, &mut reader)
+    solves_so(whole.scramble, &mut reader)
 }
 
-/// Whether a part of steps solves a scramble. Most parts are seen not to by what they do to the corners.
-fn part_solves(scramble: &Niss, text: &[u8], bounds: &[usize], part: Part, around: &Around) -> bool
-    requires room { length text.now ≤ 65536 }
-    requires around { IsAroundPart scramble.now text.now bounds.now part.first part.behind around.now }
-    ensures { result ≡ solves_part (Ok scramble.now) text.now bounds.now part }
+/// The same. Most parts are seen not to by what they do to the corners.
+fn part_solves(whole: &WholeSteps, part: Part, around: &Around) -> bool
+    requires whole { AreWhole whole.now }
+    requires around { IsAroundPart whole.now.scramble.now whole.now.steps.now whole.now.bounds.now part.first part.end around.now }
+    ensures { result ≡ solves_part (Ok whole.now.scramble.now) whole.now.steps.now whole.now.bounds.now part }
 {
-    around.may_solve(part.how) && solves_part(scramble, text, bounds, part)
+    around.may_solve(part.how) && solves_part(whole, part)
 }
 
-/// What is done with steps so that a scramble is solved, if anything does. The part names the steps.
-fn solving_how(
-    scramble: &Niss,
-    text: &[u8],
-    bounds: &[usize],
-    alone: Part,
-    around: &Around,
-) -> Option<How>
-    requires room { length text.now ≤ 65536 }
-    requires around { IsAroundPart scramble.now text.now bounds.now alone.first alone.behind around.now }
-    ensures { IsHow (λ how. solves_part (Ok scramble.now) text.now bounds.now (part how alone.first alone.behind)) result }
+/// What is done with steps so that the scramble is solved, if anything does. The part names the steps.
+fn solving_how(whole: &WholeSteps, alone: Part, around: &Around) -> Option<How>
+    requires whole { AreWhole whole.now }
+    requires around { IsAroundPart whole.now.scramble.now whole.now.steps.now whole.now.bounds.now alone.first alone.end around.now }
+    ensures { IsHow (λ how. solves_part (Ok whole.now.scramble.now) whole.now.steps.now whole.now.bounds.now (part how alone.first alone.end)) result }
 {
     let alone = Part {
         how: How::Alone,
         ..alone
     };
-    if part_solves(scramble, text, bounds, alone, around) {
+    if part_solves(whole, alone, around) {
         return Some(How::Alone);
     }
     let left_out = Part {
         how: How::LeftOut,
         ..alone
     };
-    if part_solves(scramble, text, bounds, left_out, around) {
+    if part_solves(whole, left_out, around) {
         return Some(How::LeftOut);
     }
     let in_brackets = Part {
         how: How::InBrackets,
         ..alone
     };
-    if part_solves(scramble, text, bounds, in_brackets, around) {
+    if part_solves(whole, in_brackets, around) {
         return Some(How::InBrackets);
     }
     None
 }
 
-/// The first part that solves a scramble among those that begin with a step.
-fn part_from(
-    scramble: &Niss,
-    text: &[u8],
-    bounds: &[usize],
-    first: usize,
-    before: &Around,
-) -> Option<Part>
-    requires room { length text.now ≤ 65536 }
-    requires around { IsAroundPart scramble.now text.now bounds.now first first before.now }
-    ensures { IsFirstFrom (number_of_steps bounds.now) (solves_part (Ok scramble.now) text.now bounds.now) first result }
+/// The first part that solves the scramble among those that begin with a step.
+fn part_from(whole: &WholeSteps, first: usize, before: &Around) -> Option<Part>
+    requires whole { AreWhole whole.now }
+    requires around { IsAroundPart whole.now.scramble.now whole.now.steps.now whole.now.bounds.now first first before.now }
+    ensures { IsFirstFrom (number_of_steps whole.now.bounds.now) (solves_part (Ok whole.now.scramble.now) whole.now.steps.now whole.now.bounds.now) first result }
 {
     let mut around = *before;
-    for step in first..bounds.len() - 1 {
+    for step in first..whole.bounds.len() - 1 {
         around = around.longer(step);
         let alone = Part {
             how: How::Alone,
             first,
-            behind: step + 1,
+            end: step + 1,
         };
-        if let Some(how) = solving_how(scramble, text, bounds, alone, &around) {
+        if let Some(how) = solving_how(whole, alone, &around) {
             return Some(Part { how, ..alone });
         }
     }
     None
 }
 
-/// The first part of steps that solves a scramble.
-fn first_part(
-    scramble: &Niss,
-    text: &[u8],
-    bounds: &[usize],
-    corners: &AttemptCorners,
-) -> Option<Part>
-    requires room { length text.now ≤ 65536 }
-    requires corners { IsAttempt corners.now scramble.now text.now bounds.now }
-    ensures { IsFirst (number_of_steps bounds.now) (solves_part (Ok scramble.now) text.now bounds.now) result }
+/// The first part of all steps that solves the scramble.
+fn first_part(whole: &WholeSteps) -> Option<Part>
+    requires whole { AreWhole whole.now }
+    ensures { IsFirst (number_of_steps whole.now.bounds.now) (solves_part (Ok whole.now.scramble.now) whole.now.steps.now whole.now.bounds.now) result }
 {
-    let mut before = Around::begin(corners);
-    for first in 0..bounds.len() - 1 {
-        if let Some(part) = part_from(scramble, text, bounds, first, &before) {
+    let mut before = Around::begin(whole.corners);
+    for first in 0..whole.bounds.len() - 1 {
+        if let Some(part) = part_from(whole, first, &before) {
             return Some(part);
         }
         before = before.longer(first).passed();
@@ -221,46 +206,62 @@ fn first_part(
     None
 }
 
-/// What is found in steps.
-fn found_in(scramble: &Niss, text: &[u8], bounds: &[usize]) -> Found
-    requires some { (0 < length bounds.now) × (length bounds.now ≤ 13) }
-    requires bounds { AreBounds bounds.now }
-    requires room { length text.now ≤ 65536 }
-    ensures { IsFound (number_of_steps bounds.now) (solves_part (Ok scramble.now) text.now bounds.now)
-        (λ reading. solves_all reading (Ok scramble.now) text.now bounds.now) (solves_with (Ok scramble.now) text.now bounds.now) (solves_repeated (Ok scramble.now) text.now bounds.now) result }
+/// What is found in all steps.
+fn found_in(whole: &WholeSteps) -> Found
+    requires whole { AreWhole whole.now }
+    ensures { IsFound (number_of_steps whole.now.bounds.now) (solves_part (Ok whole.now.scramble.now) whole.now.steps.now whole.now.bounds.now)
+        (λ reading. solves_all reading (Ok whole.now.scramble.now) whole.now.steps.now whole.now.bounds.now) (solves_with (Ok whole.now.scramble.now) whole.now.steps.now whole.now.bounds.now)
+        (solves_repeated (Ok whole.now.scramble.now) whole.now.steps.now whole.now.bounds.now) result }
 {
-    let corners = AttemptCorners::of(scramble, text, bounds);
-    if let Some(part) = first_part(scramble, text, bounds, &corners) {
+    if let Some(part) = first_part(whole) {
         return Found::Part(part);
     }
-    if solves_otherwise(scramble, text, bounds, Reading::WithoutBrackets) {
+    if solves_otherwise(whole, Reading::WithoutBrackets) {
         return Found::WithoutBrackets;
     }
-    if let Some(set) = least_set(scramble, text, bounds, &corners) {
+    if let Some(set) = least_set(whole) {
         return Found::EachInBrackets(set);
     }
-    if let Some(step) = repeated_step(scramble, text, bounds, &corners) {
+    if let Some(step) = repeated_step(whole) {
         return Found::Repeated(step);
     }
-    if solves_otherwise(scramble, text, bounds, Reading::InCapitals) {
+    if solves_otherwise(whole, Reading::InCapitals) {
         Found::InCapitals
     } else {
         Found::Nothing
     }
 }
 
+/// What is found in steps that begin and end at these places.
+fn found_between(scramble: &Niss, steps: &[u8], bounds: &[usize]) -> Found
+    requires some { (0 < length bounds.now) × (length bounds.now ≤ most_bounds) }
+    requires bounds { AreBounds bounds.now }
+    requires room { length steps.now ≤ most_step_bytes }
+    ensures { IsFound (number_of_steps bounds.now) (solves_part (Ok scramble.now) steps.now bounds.now)
+        (λ reading. solves_all reading (Ok scramble.now) steps.now bounds.now) (solves_with (Ok scramble.now) steps.now bounds.now)
+        (solves_repeated (Ok scramble.now) steps.now bounds.now) result }
+{
+    let corners = AttemptCorners::of(scramble, steps, bounds);
+    found_in(&WholeSteps {
+        scramble,
+        steps,
+        bounds,
+        corners: &corners,
+    })
+}
+
 /// What is found in steps after a scramble: nothing if that has a fault.
 fn found_after(scramble: &[u8], text: &[u8], bounds: &[usize]) -> Found
-    requires some { (0 < length bounds.now) × (length bounds.now ≤ 13) }
+    requires some { (0 < length bounds.now) × (length bounds.now ≤ most_bounds) }
     requires bounds { AreBounds bounds.now }
-    requires room { (length scramble.now ≤ most_bytes) × (length text.now ≤ 65536) }
+    requires room { (length scramble.now ≤ most_bytes) × (length text.now ≤ most_step_bytes) }
     ensures { IsFound (number_of_steps bounds.now) (solves_part (read_line scramble.now) text.now bounds.now)
         (λ reading. solves_all reading (read_line scramble.now) text.now bounds.now) (solves_with (read_line scramble.now) text.now bounds.now)
         (solves_repeated (read_line scramble.now) text.now bounds.now) result }
 {
     let mut reader = LineReader::new();
     match read_by(&mut reader, scramble) {
-        Ok(scramble) => found_in(scramble, text, bounds),
+        Ok(scramble) => found_between(scramble, text, bounds),
         Err(_) => Found::Nothing,
     }
 }
@@ -281,7 +282,7 @@ impl PartAnswer {
 
     /// The answer to steps that begin and end at these places.
     fn of(found: Found, bounds: &[usize]) -> PartAnswer
-        requires few { (0 < length bounds.now) × (length bounds.now ≤ 13) }
+        requires few { (0 < length bounds.now) × (length bounds.now ≤ most_bounds) }
         requires part { IsWithin (number_of_steps bounds.now) found }
         ensures { result ≡ answer_of bounds.now found }
     {
@@ -290,7 +291,7 @@ impl PartAnswer {
             Found::Part(part) => PartAnswer {
                 how: part.how.number(),
                 first: part.first as u8,
-                last: (part.behind - 1) as u8,
+                last: (part.end - 1) as u8,
                 begin: bounds[part.first],
                 ..done
             },

@@ -2,14 +2,16 @@
 ghost use Rattle.std.specs.Prelude.{◌≡◌, ◌<◌, ◌≤◌, ◌+◌, ◌*◌, ◌++◌, ℕ, List, [], Ok, IfSome, false, length, map};
 ghost use Rattle.niss_moves.specs.Line.{Moves};
 ghost use Rattle.niss_moves.specs.Reader.{IsFed};
-ghost use Rattle.niss_embed.specs.Corners.{IsAroundPart, IsAttempt, Reads};
+ghost use Rattle.niss_embed.specs.Corners.{IsAroundPart, Reads};
+ghost use Rattle.niss_embed.specs.Between.{AreWhole};
 ghost use Rattle.niss_embed.specs.Parts.{IsFirstStep, bare_step, number_of_steps, read_byte, repeated, solves_repeated, solves_so_often};
 ghost use Rattle.niss_embed.specs.declared.step_reading.Reading.TheVariants.{AsWritten, WithoutBrackets};
 
-use crate::step_corners::{Around, AttemptCorners, StepCorners, corners_of_step};
+use crate::step_corners::{Around, StepCorners, corners_of_step};
 use crate::step_reading::{Reading, feed, solves_so};
 use crate::stretch::stretch;
-use niss_moves::{LineReader, Niss};
+use crate::whole_steps::WholeSteps;
+use niss_moves::LineReader;
 
 /// Has a reader read a step without its brackets, twice or three times.
 fn feed_times(reader: &mut LineReader, step: &[u8], thrice: bool)
@@ -36,44 +38,34 @@ fn feed_repeated(reader: &mut LineReader, before: &[u8], step: &[u8], after: &[u
     feed(reader, after, Reading::AsWritten);
 }
 
-/// Whether all steps solve a scramble if one is made so often.
+/// Whether all steps solve the scramble if one is made so often.
 #[inline(never)]
-fn solves_so_often(
-    scramble: &Niss,
-    text: &[u8],
-    bounds: &[usize],
-    step: usize,
-    thrice: bool,
-) -> bool
-    requires step { step + 1 < length bounds.now }
-    requires room { length text.now ≤ 65536 }
-    ensures { result ≡ solves_so_often (Ok scramble.now) text.now bounds.now step thrice }
+fn solves_so_often(whole: &WholeSteps, step: usize, thrice: bool) -> bool
+    requires whole { AreWhole whole.now }
+    requires step { step + 1 < length whole.now.bounds.now }
+    ensures { result ≡ solves_so_often (Ok whole.now.scramble.now) whole.now.steps.now whole.now.bounds.now step thrice }
 {
-    let before = stretch(text, bounds[0], bounds[step]);
-    let own = stretch(text, bounds[step], bounds[step + 1]);
-    let after = stretch(text, bounds[step + 1], bounds[bounds.len() - 1]);
+    let bounds = whole.bounds;
+    let before = stretch(whole.steps, bounds[0], bounds[step]);
+    let own = stretch(whole.steps, bounds[step], bounds[step + 1]);
+    let after = stretch(whole.steps, bounds[step + 1], bounds[bounds.len() - 1]);
     let mut reader = LineReader::new();
     feed_repeated(&mut reader, before, own, after, thrice);
-    solves_so(scramble, &mut reader)
+    solves_so(whole.scramble, &mut reader)
 }
 
 /// What a step does without its brackets, if it is a line by itself then. Most steps have none.
-fn corners_of_bare(
-    text: &[u8],
-    bounds: &[usize],
-    step: usize,
-    around: &Around,
-) -> Option<StepCorners>
-    requires step { step + 1 < length bounds.now }
-    requires room { length text.now ≤ 65536 }
-    ensures { (scramble : Moves) → IsAroundPart scramble text.now bounds.now step (step + 1) around.now →
-        IfSome result (Reads (bare_step text.now bounds.now step)) }
+fn corners_of_bare(whole: &WholeSteps, step: usize, around: &Around) -> Option<StepCorners>
+    requires whole { AreWhole whole.now }
+    requires step { step + 1 < length whole.now.bounds.now }
+    ensures { (scramble : Moves) → IsAroundPart scramble whole.now.steps.now whole.now.bounds.now step (step + 1) around.now →
+        IfSome result (Reads (bare_step whole.now.steps.now whole.now.bounds.now step)) }
 {
     if around.attempt.are_lines && around.own.plain {
         return Some(around.own);
     }
     corners_of_step(
-        stretch(text, bounds[step], bounds[step + 1]),
+        stretch(whole.steps, whole.bounds[step], whole.bounds[step + 1]),
         Reading::WithoutBrackets,
     )
 }
@@ -90,40 +82,28 @@ fn may_so_often(around: &Around, bare: &Option<StepCorners>, thrice: bool) -> bo
     }
 }
 
-/// Whether all steps solve a scramble if one is made twice or three times.
-fn solves_repeated(
-    scramble: &Niss,
-    text: &[u8],
-    bounds: &[usize],
-    step: usize,
-    around: &Around,
-) -> bool
-    requires room { length text.now ≤ 65536 }
-    requires around { IsAroundPart scramble.now text.now bounds.now step (step + 1) around.now }
-    ensures { result ≡ solves_repeated (Ok scramble.now) text.now bounds.now step }
+/// Whether all steps solve the scramble if one is made twice or three times.
+fn solves_repeated(whole: &WholeSteps, step: usize, around: &Around) -> bool
+    requires whole { AreWhole whole.now }
+    requires around { IsAroundPart whole.now.scramble.now whole.now.steps.now whole.now.bounds.now step (step + 1) around.now }
+    ensures { result ≡ solves_repeated (Ok whole.now.scramble.now) whole.now.steps.now whole.now.bounds.now step }
 {
-    let bare = corners_of_bare(text, bounds, step, around);
-    if may_so_often(around, &bare, false) && solves_so_often(scramble, text, bounds, step, false) {
+    let bare = corners_of_bare(whole, step, around);
+    if may_so_often(around, &bare, false) && solves_so_often(whole, step, false) {
         return true;
     }
-    may_so_often(around, &bare, true) && solves_so_often(scramble, text, bounds, step, true)
+    may_so_often(around, &bare, true) && solves_so_often(whole, step, true)
 }
 
-/// The first step that solves a scramble if it is made twice or three times in its place, without its brackets.
-pub fn repeated_step(
-    scramble: &Niss,
-    text: &[u8],
-    bounds: &[usize],
-    corners: &AttemptCorners,
-) -> Option<usize>
-    requires room { length text.now ≤ 65536 }
-    requires corners { IsAttempt corners.now scramble.now text.now bounds.now }
-    ensures { IsFirstStep (number_of_steps bounds.now) (solves_repeated (Ok scramble.now) text.now bounds.now) result }
+/// The first step that solves the scramble if it is made twice or three times in its place, without its brackets.
+pub fn repeated_step(whole: &WholeSteps) -> Option<usize>
+    requires whole { AreWhole whole.now }
+    ensures { IsFirstStep (number_of_steps whole.now.bounds.now) (solves_repeated (Ok whole.now.scramble.now) whole.now.steps.now whole.now.bounds.now) result }
 {
-    let mut before = Around::begin(corners);
-    for step in 0..bounds.len() - 1 {
+    let mut before = Around::begin(whole.corners);
+    for step in 0..whole.bounds.len() - 1 {
         let around = before.longer(step);
-        if solves_repeated(scramble, text, bounds, step, &around) {
+        if solves_repeated(whole, step, &around) {
             return Some(step);
         }
         before = around.passed();

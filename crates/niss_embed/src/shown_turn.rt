@@ -6,26 +6,18 @@ ghost use Rattle.niss_moves.specs.declared.turn.Face.{Face};
 ghost use Rattle.niss_moves.specs.declared.turn.Turn.{Turn};
 ghost use Rattle.niss_text.specs.declared.text_line.TextLine.{TextLine};
 ghost use Rattle.niss_embed.specs.Doubts.{doubt};
-ghost use Rattle.niss_embed.specs.Blanks.{is_blank, last_place};
-ghost use Rattle.niss_embed.specs.ShownTurn.{said_in, is_stray, ends_bracket, sign_after, sign_behind, is_empty_bracket, bracket_behind, bracket_before, sign_before};
-ghost use Rattle.niss_embed.specs.ShownTurn.{IsBorder, steps_among, step_at, has_one_sign, signs_of, said_in_step, sign_behind_step, sign_before_step, sign_between, shown_by, shown_between};
+ghost use Rattle.niss_embed.specs.Blanks.{is_blank, last_of_moves, last_place};
+ghost use Rattle.niss_embed.specs.ShownTurn.{said_in, is_stray, ends_bracket, sign_after, last_sign, is_empty_bracket, last_bracket, first_bracket, first_sign};
+ghost use Rattle.niss_embed.specs.ShownTurn.{IsBorder, steps_among, step_at, has_one_sign, signs_of, said_in_step, last_sign_of, first_sign_of, sign_between, shown_by, shown_between};
+ghost use Rattle.niss_embed.specs.Parts.{most_bounds};
 
-use crate::attempts::Doubt;
 use crate::bare_letter::{letter_between, may_stand};
+use crate::doubts::{Doubt, Reason};
 use crate::step_lines::is_step;
 use crate::stretch::stretch;
 use crate::turn_words::{byte_at, is_within, may_begin, stands_at};
 use niss_moves::{Face, Turn};
 use niss_text::TextLine;
-
-/// The doubt that moves belong there.
-pub(crate) const MOVES_BELONG: u8 = 8;
-
-/// The doubt that a letter may be of words.
-const COMMENT: u8 = 6;
-
-/// The doubt that a sign stands for a move.
-const SIGNS: u8 = 12;
 
 /// Whether some face may stand in the comment of a line.
 fn may_say(text: &[u8], line: &TextLine) -> bool
@@ -68,7 +60,7 @@ pub(crate) fn is_blank(byte: u8) -> bool
 }
 
 /// Where the last byte stands between two places of a text that isn't a blank.
-pub(crate) fn last_place(text: &[u8], begin: usize, end: usize) -> Option<usize>
+fn last_place(text: &[u8], begin: usize, end: usize) -> Option<usize>
     ensures is { result ≡ last_place text.now begin end }
     ensures within { IfSome result (λ at. (begin ≤ at) × (at < end)) }
 {
@@ -81,6 +73,14 @@ pub(crate) fn last_place(text: &[u8], begin: usize, end: usize) -> Option<usize>
     None
 }
 
+/// Where the last byte of the moves of a line stands.
+pub(crate) fn last_of_moves(text: &[u8], line: &TextLine) -> Option<usize>
+    ensures is { result ≡ last_of_moves text.now line.now }
+    ensures fits { IfSome result (λ at. at < usize.MAX) }
+{
+    last_place(text, line.moves, line.comment)
+}
+
 /// Whether bytes begin with brackets around nothing.
 fn is_empty_bracket(bytes: &[u8]) -> bool
     ensures { result ≡ is_empty_bracket bytes.now }
@@ -91,7 +91,7 @@ fn is_empty_bracket(bytes: &[u8]) -> bool
 /// Whether the moves of a line end in brackets around nothing, the second of which stands at a place, and begin before
 /// these.
 fn ends_bracket(text: &[u8], line: &TextLine, at: usize) -> bool
-    requires { at < 18446744073709551615 }
+    requires { at < usize.MAX }
     ensures { result ≡ ends_bracket text.now line.now at }
 {
     let first = at.saturating_sub(1);
@@ -111,26 +111,26 @@ fn sign_after(text: &[u8], line: &TextLine) -> Option<usize>
 }
 
 /// Where brackets around nothing stand with which the moves of a line end, if they don't begin with them.
-fn bracket_behind(text: &[u8], line: &TextLine) -> Option<usize>
-    ensures { result ≡ bracket_behind text.now line.now }
+fn last_bracket(text: &[u8], line: &TextLine) -> Option<usize>
+    ensures { result ≡ last_bracket text.now line.now }
 {
-    match last_place(text, line.moves, line.comment) {
+    match last_of_moves(text, line) {
         Some(at) if ends_bracket(text, line, at) => Some(at.saturating_sub(1)),
         _ => None,
     }
 }
 
-/// Where a sign stands behind the moves of a line: a stray one or a digit right after them, or brackets around nothing at
+/// Where a sign stands after the moves of a line: a stray one or a digit right after them, or brackets around nothing at
 /// their end.
-fn sign_behind(text: &[u8], line: &TextLine) -> Option<usize>
-    ensures { result ≡ sign_behind text.now line.now }
+fn last_sign(text: &[u8], line: &TextLine) -> Option<usize>
+    ensures { result ≡ last_sign text.now line.now }
 {
-    sign_after(text, line).or(bracket_behind(text, line))
+    sign_after(text, line).or(last_bracket(text, line))
 }
 
 /// Where the moves of a line begin, if they do so with brackets around nothing.
-fn bracket_before(text: &[u8], line: &TextLine) -> Option<usize>
-    ensures { result ≡ bracket_before text.now line.now }
+fn first_bracket(text: &[u8], line: &TextLine) -> Option<usize>
+    ensures { result ≡ first_bracket text.now line.now }
 {
     if is_empty_bracket(stretch(text, line.moves, line.comment)) {
         Some(line.moves)
@@ -141,14 +141,14 @@ fn bracket_before(text: &[u8], line: &TextLine) -> Option<usize>
 
 /// Where a sign stands before the moves of a line: a stray one right before them, or brackets around nothing with which they
 /// begin.
-fn sign_before(text: &[u8], line: &TextLine) -> Option<usize>
-    ensures { result ≡ sign_before text.now line.now }
+fn first_sign(text: &[u8], line: &TextLine) -> Option<usize>
+    ensures { result ≡ first_sign text.now line.now }
 {
     let stray = match last_place(text, line.label_begin, line.moves) {
         Some(at) if is_stray(byte_at(text, at)) => Some(at),
         _ => None,
     };
-    stray.or(bracket_before(text, line))
+    stray.or(first_bracket(text, line))
 }
 
 /// One if there is something, and else 0.
@@ -167,7 +167,7 @@ fn number_of_signs(text: &[u8], line: &TextLine) -> usize
     ensures is { result ≡ length (signs_of text.now line.now) }
     ensures few { result ≤ 2 }
 {
-    one_if(sign_before(text, line)) + one_if(sign_behind(text, line))
+    one_if(first_sign(text, line)) + one_if(last_sign(text, line))
 }
 
 /// Whether a single sign stands beside the moves of steps.
@@ -239,22 +239,19 @@ fn first_step(lines: &[TextLine]) -> (Option<TextLine>, &[TextLine])
 }
 
 /// The doubt of a place of a text, if there is one.
-fn doubt_if(reason: u8, place: Option<usize>) -> Option<Doubt>
+fn doubt_if(reason: Reason, place: Option<usize>) -> Option<Doubt>
     ensures { result ≡ option_map (doubt reason) place }
 {
-    match place {
-        Some(at) => Some(Doubt { reason, at }),
-        None => None,
-    }
+    place.map(|at| Doubt { reason, at })
 }
 
 /// The doubt of what a comment has, or of a letter that may be of words, or of what a sign stands for.
 fn shown_by(said: Option<usize>, letter: Option<usize>, sign: Option<usize>) -> Option<Doubt>
     ensures { result ≡ shown_by said letter sign }
 {
-    doubt_if(MOVES_BELONG, said)
-        .or(doubt_if(COMMENT, letter))
-        .or(doubt_if(SIGNS, sign))
+    doubt_if(Reason::Insertion, said)
+        .or(doubt_if(Reason::Comment, letter))
+        .or(doubt_if(Reason::Signs, sign))
 }
 
 /// What stands between two steps in a text.
@@ -263,12 +260,12 @@ pub struct Border<'a> {
     pub text: &'a [u8],
     /// The number of the step after it.
     pub number: usize,
-    /// The step before it, if there is one, and the one after it.
-    pub behind: Option<TextLine>,
-    pub before: Option<TextLine>,
+    /// The step above it, if there is one, and the one below.
+    pub above: Option<TextLine>,
+    pub below: Option<TextLine>,
     /// Whether the text has a single sign beside its steps.
     pub has_one_sign: bool,
-    /// The lines after the second step.
+    /// The lines after the step below.
     pub rest: &'a [TextLine],
 }
 
@@ -277,12 +274,12 @@ impl<'a> Border<'a> {
     pub fn begin(text: &'a [u8], lines: &'a [TextLine]) -> Border<'a>
         ensures { IsBorder text.now lines.now 0 result }
     {
-        let (before, rest) = first_step(lines);
+        let (below, rest) = first_step(lines);
         Border {
             text,
             number: 0,
-            behind: None,
-            before,
+            above: None,
+            below,
             has_one_sign: has_one_sign(text, lines),
             rest,
         }
@@ -290,14 +287,14 @@ impl<'a> Border<'a> {
 
     /// What stands after the next step.
     pub fn next(&self) -> Border<'a>
-        requires { self.now.number < 13 }
+        requires { self.now.number < most_bounds }
         ensures { (text : List ℕ) (lines : List TextLine) (number : ℕ) → IsBorder text lines number self.now → IsBorder text lines (number + 1) result }
     {
-        let (before, rest) = first_step(self.rest);
+        let (below, rest) = first_step(self.rest);
         Border {
             number: self.number + 1,
-            behind: self.before,
-            before,
+            above: self.below,
+            below,
             rest,
             ..*self
         }
@@ -323,32 +320,32 @@ impl<'a> Border<'a> {
         }
     }
 
-    /// Where a sign stands behind the first step.
-    fn sign_behind(&self) -> Option<usize>
-        ensures { result ≡ sign_behind_step self.now.text.now self.now.behind }
+    /// Where a sign stands after the step above.
+    fn last_sign(&self) -> Option<usize>
+        ensures { result ≡ last_sign_of self.now.text.now self.now.above }
     {
-        match &self.behind {
-            Some(line) => sign_behind(self.text, line),
+        match &self.above {
+            Some(line) => last_sign(self.text, line),
             None => None,
         }
     }
 
-    /// Where one stands before the second.
-    fn sign_before(&self) -> Option<usize>
-        ensures { result ≡ sign_before_step self.now.text.now self.now.before }
+    /// Where one stands before the one below.
+    fn first_sign(&self) -> Option<usize>
+        ensures { result ≡ first_sign_of self.now.text.now self.now.below }
     {
-        match &self.before {
-            Some(line) => sign_before(self.text, line),
+        match &self.below {
+            Some(line) => first_sign(self.text, line),
             None => None,
         }
     }
 
     /// Where one stands between them, if it is the only one.
     pub fn sign(&self) -> Option<usize>
-        ensures { result ≡ sign_between self.now.text.now self.now.behind self.now.before self.now.has_one_sign }
+        ensures { result ≡ sign_between self.now.text.now self.now.above self.now.below self.now.has_one_sign }
     {
         if self.has_one_sign {
-            self.sign_behind().or(self.sign_before())
+            self.last_sign().or(self.first_sign())
         } else {
             None
         }
@@ -357,21 +354,21 @@ impl<'a> Border<'a> {
     /// Whether the text may show some turn there.
     pub fn may_show(&self) -> bool
         ensures { result ≡ false → (turn : Turn) →
-            shown_between self.now.text.now self.now.behind self.now.before self.now.has_one_sign turn ≡ None }
+            shown_between self.now.text.now self.now.above self.now.below self.now.has_one_sign turn ≡ None }
     {
-        self.may_say(&self.behind)
-            || (self.may_say(&self.before)
-                || (may_stand(self.text, &self.behind, &self.before) || self.sign().is_some()))
+        self.may_say(&self.above)
+            || (self.may_say(&self.below)
+                || (may_stand(self.text, &self.above, &self.below) || self.sign().is_some()))
     }
 
     /// The doubt that a turn belongs there, if the text shows it.
     pub fn shows(&self, turn: Turn) -> Option<Doubt>
-        ensures { result ≡ shown_between self.now.text.now self.now.behind self.now.before self.now.has_one_sign turn }
+        ensures { result ≡ shown_between self.now.text.now self.now.above self.now.below self.now.has_one_sign turn }
     {
         let said = self
-            .said_in(&self.behind, turn.face)
-            .or(self.said_in(&self.before, turn.face));
-        let letter = letter_between(self.text, &self.behind, &self.before, turn);
+            .said_in(&self.above, turn.face)
+            .or(self.said_in(&self.below, turn.face));
+        let letter = letter_between(self.text, &self.above, &self.below, turn);
         shown_by(said, letter, self.sign())
     }
 }

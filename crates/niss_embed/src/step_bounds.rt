@@ -1,7 +1,7 @@
 //! The places where the steps of an attempt begin and end.
 ghost use Rattle.std.specs.Prelude.{◌≡◌, ◌<◌, ◌≤◌, ◌++◌, [], ◌∷◌, length};
 ghost use Rattle.niss_embed.specs.Corners.{AreBounds};
-ghost use Rattle.niss_embed.specs.Parts.{bounds_of, in_bracket, is_end, is_open_after};
+ghost use Rattle.niss_embed.specs.Parts.{bounds_of, in_bracket, is_end, is_open_after, most_bounds};
 
 use arrayvec::ArrayVec;
 
@@ -34,7 +34,7 @@ fn is_end(text: &[u8], place: usize, is_open: bool) -> bool
 /// The place where the first step begins, and those where the first ones end. One goes on over lines while a bracket is open.
 pub fn bounds_of(text: &[u8]) -> ArrayVec<usize, MOST_BOUNDS>
     ensures are { result.items ≡ bounds_of text.now }
-    ensures few { (0 < length result.items) × (length result.items ≤ 13) }
+    ensures few { (0 < length result.items) × (length result.items ≤ most_bounds) }
     ensures bounds { AreBounds result.items }
 {
     let mut bounds = ArrayVec::new();
@@ -52,8 +52,8 @@ pub fn bounds_of(text: &[u8]) -> ArrayVec<usize, MOST_BOUNDS>
 
 /// Adds a place, if there is room.
 fn push_bound(bounds: &mut ArrayVec<usize, MOST_BOUNDS>, place: usize)
-    ensures room { length bounds.old.items < 13 → bounds.new.items ≡ bounds.old.items ++ place ∷ [] }
-    ensures full { 13 ≤ length bounds.old.items → bounds.new.items ≡ bounds.old.items }
+    ensures room { length bounds.old.items < most_bounds → bounds.new.items ≡ bounds.old.items ++ place ∷ [] }
+    ensures full { most_bounds ≤ length bounds.old.items → bounds.new.items ≡ bounds.old.items }
 {
     if !bounds.is_full() {
         bounds.push(place);

@@ -5,7 +5,7 @@ ghost use Rattle.niss_moves.specs.Line.{Moves, joined_moves};
 ghost use Rattle.niss_moves.specs.Reader.{read_line};
 ghost use Rattle.niss_embed.specs.Corners.{Brings, Reads, has_bracket, AreBounds, AreSteps, IsAround, IsAroundPart, IsAttempt, IsTail, AreTails};
 ghost use Rattle.niss_embed.specs.DeadSteps.{AreParted, IsParted, Rests, StandsNowhere, StaysDead};
-ghost use Rattle.niss_embed.specs.Parts.{read_byte, arranged, bare_step, repeated, solves_line, solves_part, solves_so_often, steps_line, part, in_brackets_if};
+ghost use Rattle.niss_embed.specs.Parts.{read_byte, arranged, bare_step, repeated, solves_line, solves_part, solves_so_often, steps_line, part, in_brackets_if, most_step_bytes, most_bounds, most_steps};
 ghost use Rattle.niss_embed.specs.declared.step_reading.Reading.TheVariants.{AsWritten};
 
 use crate::corners::Corners;
@@ -156,7 +156,7 @@ fn is_plain(step: &[u8], reading: Reading) -> bool
 /// What a step does, if it is a line by itself, or in none.
 #[inline(never)]
 pub fn corners_of_step(step: &[u8], reading: Reading) -> Option<StepCorners>
-    requires room { length step.now ≤ 65536 }
+    requires room { length step.now ≤ most_step_bytes }
     ensures { IfSome result (λ corners. Reads (map (read_byte reading) step.now) corners) }
 {
     line_is_read();
@@ -171,8 +171,8 @@ pub fn corners_of_step(step: &[u8], reading: Reading) -> Option<StepCorners>
 
 /// Adds what each step does, and says whether each is a line by itself, or in none.
 fn are_lines(text: &[u8], bounds: &[usize], steps: &mut ArrayVec<StepCorners, MOST_STEPS>) -> bool
-    requires room { length text.now ≤ 65536 }
-    requires few { (0 < length bounds.now) × (length bounds.now ≤ 13) }
+    requires room { length text.now ≤ most_step_bytes }
+    requires few { (0 < length bounds.now) × (length bounds.now ≤ most_bounds) }
     requires bounds { AreBounds bounds.now }
     requires none { steps.old.items ≡ [] }
     ensures number { length bounds.now ≡ length steps.new.items + 1 }
@@ -197,7 +197,7 @@ fn are_lines(text: &[u8], bounds: &[usize], steps: &mut ArrayVec<StepCorners, MO
 /// Works out anew what the steps from each one on do, of the first so many, if some stand in brackets.
 #[inline(never)]
 pub fn renew(steps: &[StepCorners], tails: &mut [Corners; MOST_BOUNDS], set: StepSet, count: usize)
-    requires { (count ≤ length steps.now) × (length steps.now ≤ 12) }
+    requires { (count ≤ length steps.now) × (length steps.now ≤ most_steps) }
     ensures { (text bounds : List ℕ) → AreSteps text bounds steps.now → AreParted text bounds → AreTails text bounds set count tails.old →
         AreTails text bounds set 0 tails.new }
 {
@@ -232,8 +232,8 @@ pub struct AttemptCorners {
 impl AttemptCorners {
     /// Of steps that begin and end at these places.
     pub fn of(scramble: &Niss, text: &[u8], bounds: &[usize]) -> AttemptCorners
-        requires room { length text.now ≤ 65536 }
-        requires few { (0 < length bounds.now) × (length bounds.now ≤ 13) }
+        requires room { length text.now ≤ most_step_bytes }
+        requires few { (0 < length bounds.now) × (length bounds.now ≤ most_bounds) }
         requires bounds { AreBounds bounds.now }
         ensures { IsAttempt result scramble.now text.now bounds.now }
     {
@@ -304,8 +304,8 @@ impl<'a> Around<'a> {
     /// No steps, after these.
     #[inline(never)]
     pub fn passed(&self) -> Around<'a>
-        ensures { (scramble : Moves) (text bounds : List ℕ) (first behind : ℕ) → IsAroundPart scramble text bounds first behind self.now →
-            IsAroundPart scramble text bounds behind behind result }
+        ensures { (scramble : Moves) (text bounds : List ℕ) (first end : ℕ) → IsAroundPart scramble text bounds first end self.now →
+            IsAroundPart scramble text bounds end end result }
     {
         Around {
             before: self.before.then(&self.own),
@@ -332,8 +332,8 @@ impl<'a> Around<'a> {
     /// Whether that line may solve the scramble.
     #[inline(never)]
     pub fn may_solve(&self, how: How) -> bool
-        ensures { (scramble : Moves) (text bounds : List ℕ) (first behind : ℕ) → IsAroundPart scramble text bounds first behind self.now →
-            result ≡ false → solves_part (Ok scramble) text bounds (part how first behind) ≡ false }
+        ensures { (scramble : Moves) (text bounds : List ℕ) (first end : ℕ) → IsAroundPart scramble text bounds first end self.now →
+            result ≡ false → solves_part (Ok scramble) text bounds (part how first end) ≡ false }
     {
         self.attempt.may_solve(&self.line(how))
     }

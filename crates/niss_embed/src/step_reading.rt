@@ -1,13 +1,14 @@
 //! How the bytes of steps are read, as they are written or otherwise, and whether all steps solve so.
-ghost use Rattle.std.specs.Prelude.{◌≡◌, ◌<◌, ◌≤◌, ◌+◌, ◌==◌, ◌++◌, ℕ, List, Ok, None, length, map, not};
+ghost use Rattle.std.specs.Prelude.{◌≡◌, ◌≤◌, ◌+◌, ◌==◌, ◌++◌, ℕ, List, Ok, None, length, map, not};
 ghost use Rattle.std.specs.List.{list_any};
 ghost use Rattle.niss_moves.specs.Reader.{IsFed, read_line};
-ghost use Rattle.niss_embed.specs.Corners.{AreBounds};
-ghost use Rattle.niss_embed.specs.Parts.{IsFirst, number_of_steps, read_byte, solves_all, solves_line, solves_part};
+ghost use Rattle.niss_embed.specs.Between.{AreWhole};
+ghost use Rattle.niss_embed.specs.Parts.{IsFirst, number_of_steps, read_byte, solves_all, solves_line, solves_part, most_step_bytes};
 ghost use Rattle.niss_embed.specs.declared.step_reading.Reading.TheVariants.{AsWritten};
 
 use crate::line_facts::is_small_letter;
 use crate::stretch::stretch;
+use crate::whole_steps::WholeSteps;
 use niss_moves::laws::{line_is_read, one_reading};
 use niss_moves::{LineReader, Niss};
 use niss_shell::{move_count, solves};
@@ -71,7 +72,7 @@ pub fn solves_so(scramble: &Niss, reader: &mut LineReader) -> bool
 
 /// Whether some steps, if they are read so, solve a scramble.
 fn solves_read(scramble: &Niss, steps: &[u8], reading: Reading) -> bool
-    requires room { length steps.now ≤ 65536 }
+    requires room { length steps.now ≤ most_step_bytes }
     ensures { result ≡ solves_line (Ok scramble.now) (read_line (map (read_byte reading) steps.now)) }
 {
     let mut reader = LineReader::new();
@@ -79,17 +80,15 @@ fn solves_read(scramble: &Niss, steps: &[u8], reading: Reading) -> bool
     solves_so(scramble, &mut reader)
 }
 
-/// Whether all steps, which begin and end at these places, solve a scramble if they are read otherwise than they are
-/// written. No part of them does as they are, and they are read only if that changes one of their bytes.
-pub fn solves_otherwise(scramble: &Niss, text: &[u8], bounds: &[usize], reading: Reading) -> bool
-    requires some { 0 < length bounds.now }
-    requires bounds { AreBounds bounds.now }
-    requires room { length text.now ≤ 65536 }
-    requires not { IsFirst (number_of_steps bounds.now) (solves_part (Ok scramble.now) text.now bounds.now) None }
-    ensures { result ≡ solves_all reading (Ok scramble.now) text.now bounds.now }
+/// Whether all steps solve the scramble if they are read otherwise than they are written. No part of them does as they
+/// are, and they are read only if that changes one of their bytes.
+pub fn solves_otherwise(whole: &WholeSteps, reading: Reading) -> bool
+    requires whole { AreWhole whole.now }
+    requires not { IsFirst (number_of_steps whole.now.bounds.now) (solves_part (Ok whole.now.scramble.now) whole.now.steps.now whole.now.bounds.now) None }
+    ensures { result ≡ solves_all reading (Ok whole.now.scramble.now) whole.now.steps.now whole.now.bounds.now }
 {
     line_is_read();
     one_reading();
-    let all = stretch(text, 0, bounds[bounds.len() - 1]);
-    reading.changes(all) && solves_read(scramble, all, reading)
+    let all = stretch(whole.steps, 0, whole.bounds[whole.bounds.len() - 1]);
+    reading.changes(all) && solves_read(whole.scramble, all, reading)
 }

@@ -1,14 +1,15 @@
 //! Steps of an attempt that, each put in brackets of its own, have it solve its scramble.
 ghost use Rattle.std.specs.Prelude.{◌≡◌, ◌<◌, ◌≤◌, ◌+◌, ◌-◌, ◌^◌, ◌++◌, ℕ, List, [], Ok, length, map};
 ghost use Rattle.niss_moves.specs.Reader.{IsFed};
-ghost use Rattle.niss_embed.specs.Corners.{IsAttempt};
+ghost use Rattle.niss_embed.specs.Between.{AreWhole};
 ghost use Rattle.niss_embed.specs.Parts.{IsLeast, has, number_of_steps, first_in, last_in, in_brackets_if, line_with, solves_with, read_byte};
 ghost use Rattle.niss_embed.specs.declared.step_reading.Reading.TheVariants.{AsWritten};
 
-use crate::step_corners::{AttemptCorners, renew};
+use crate::step_corners::renew;
 use crate::step_reading::{Reading, feed, solves_so};
 use crate::stretch::stretch;
-use niss_moves::{LineReader, Niss};
+use crate::whole_steps::WholeSteps;
+use niss_moves::LineReader;
 
 /// Of how many steps sets are tried: each is in brackets or not.
 const MOST_IN_SETS: usize = 8;
@@ -68,27 +69,26 @@ pub fn feed_step(reader: &mut LineReader, step: &[u8], in_brackets: bool)
 }
 
 /// Has a reader read all steps, of which some stand in brackets.
-fn feed_steps(reader: &mut LineReader, text: &[u8], bounds: &[usize], set: StepSet)
+fn feed_steps(reader: &mut LineReader, whole: &WholeSteps, set: StepSet)
     requires new { (reader.old.fed ≡ 0) × IsFed reader.old [] }
-    requires some { (0 < length bounds.now) × (length bounds.now ≤ 13) }
-    requires room { length text.now ≤ 65536 }
-    ensures { IsFed reader.new (line_with text.now bounds.now set) }
+    requires whole { AreWhole whole.now }
+    ensures { IsFed reader.new (line_with whole.now.steps.now whole.now.bounds.now set) }
 {
+    let bounds = whole.bounds;
     for step in 0..bounds.len() - 1 {
-        let own = stretch(text, bounds[step], bounds[step + 1]);
+        let own = stretch(whole.steps, bounds[step], bounds[step + 1]);
         feed_step(reader, own, set.has(step));
     }
 }
 
-/// Whether all steps solve a scramble if some of them stand in brackets.
-fn solves_with(scramble: &Niss, text: &[u8], bounds: &[usize], set: StepSet) -> bool
-    requires some { (0 < length bounds.now) × (length bounds.now ≤ 13) }
-    requires room { length text.now ≤ 65536 }
-    ensures { result ≡ solves_with (Ok scramble.now) text.now bounds.now set }
+/// Whether all steps solve the scramble if some of them stand in brackets.
+fn solves_with(whole: &WholeSteps, set: StepSet) -> bool
+    requires whole { AreWhole whole.now }
+    ensures { result ≡ solves_with (Ok whole.now.scramble.now) whole.now.steps.now whole.now.bounds.now set }
 {
     let mut reader = LineReader::new();
-    feed_steps(&mut reader, text, bounds, set);
-    solves_so(scramble, &mut reader)
+    feed_steps(&mut reader, whole, set);
+    solves_so(whole.scramble, &mut reader)
 }
 
 /// How many sets of so many steps there are.
@@ -100,25 +100,19 @@ fn count_of_sets(steps: usize) -> usize
     1 << steps
 }
 
-/// The set of steps with the lowest number that, each in brackets, solve a scramble. Most sets are seen not to by what they
+/// The set of steps with the lowest number that, each in brackets, solve the scramble. Most sets are seen not to by what they
 /// do to the corners: the steps after the first one of a set stand as in the set before it.
-pub fn least_set(
-    scramble: &Niss,
-    text: &[u8],
-    bounds: &[usize],
-    corners: &AttemptCorners,
-) -> Option<StepSet>
-    requires some { (0 < length bounds.now) × (length bounds.now ≤ 13) }
-    requires room { length text.now ≤ 65536 }
-    requires corners { IsAttempt corners.now scramble.now text.now bounds.now }
-    ensures { IsLeast (number_of_steps bounds.now) (solves_with (Ok scramble.now) text.now bounds.now) result }
+pub fn least_set(whole: &WholeSteps) -> Option<StepSet>
+    requires whole { AreWhole whole.now }
+    ensures { IsLeast (number_of_steps whole.now.bounds.now) (solves_with (Ok whole.now.scramble.now) whole.now.steps.now whole.now.bounds.now) result }
 {
+    let corners = whole.corners;
     let steps = corners.steps.as_slice();
     let mut tails = corners.tails;
     for number in 1..count_of_sets(steps.len().min(MOST_IN_SETS)) {
         let set = StepSet { number };
         renew(steps, &mut tails, set, set.first() + 1);
-        if corners.may_solve(&tails[0]) && solves_with(scramble, text, bounds, set) {
+        if corners.may_solve(&tails[0]) && solves_with(whole, set) {
             return Some(set);
         }
     }

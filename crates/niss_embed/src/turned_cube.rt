@@ -8,10 +8,10 @@ ghost use Rattle.niss_embed.specs.Between.{AreWhole};
 ghost use Rattle.niss_embed.specs.Corners.{Brings, IsAroundBorder};
 ghost use Rattle.niss_embed.specs.TurnedCube.{AreSides, IsTurnedAt, IsTurnedIn, doubt_at_step, solves_turned};
 
-use crate::attempts::Doubt;
 use crate::corners::Corners;
+use crate::doubts::{Doubt, Reason};
 use crate::holds::{Hold, NUMBER_OF_HOLDS, hold_numbered, turned_bytes};
-use crate::shown_turn::{MOVES_BELONG, step_at};
+use crate::shown_turn::step_at;
 use crate::step_corners::Around;
 use crate::whole_steps::WholeSteps;
 use niss_moves::laws::{line_is_read, one_reading, rotated_is_tested};
@@ -81,13 +81,10 @@ fn is_turned_at(whole: &WholeSteps, around: &Around, number: usize) -> bool
 pub(crate) fn doubt_at(lines: &[TextLine], number: usize) -> Option<Doubt>
     ensures { result ≡ doubt_at_step lines.now (Some number) }
 {
-    match step_at(lines, number) {
-        Some(line) => Some(Doubt {
-            reason: MOVES_BELONG,
-            at: line.moves,
-        }),
-        None => None,
-    }
+    step_at(lines, number).map(|line| Doubt {
+        reason: Reason::Insertion,
+        at: line.moves,
+    })
 }
 
 /// The doubt that a rotation of the whole cube belongs before a step of an attempt: that with one all steps solve. The first

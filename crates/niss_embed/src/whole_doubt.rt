@@ -2,10 +2,10 @@
 ghost use Rattle.std.specs.Prelude.{◌≡◌, ◌<◌, ◌≤◌, Ok, length};
 ghost use Rattle.niss_embed.specs.Between.{AreWhole};
 ghost use Rattle.niss_embed.specs.Corners.{AreBounds};
-ghost use Rattle.niss_embed.specs.Parts.{bounds_of};
+ghost use Rattle.niss_embed.specs.Parts.{bounds_of, most_step_bytes, most_bounds};
 ghost use Rattle.niss_embed.specs.WholeDoubt.{IsTurnedOrMovedIn, IsWholeDoubt, IsWholeDoubtIn, is_beyond};
 
-use crate::attempts::Doubt;
+use crate::doubts::Doubt;
 use crate::line_texts::read_by;
 use crate::lost_turn::lost_turn;
 use crate::moved_step::moved_step;
@@ -48,9 +48,9 @@ fn doubt_of_steps(
     text: &[u8],
     lines: &[TextLine],
 ) -> Option<Doubt>
-    requires few { (0 < length bounds.now) × (length bounds.now ≤ 13) }
+    requires few { (0 < length bounds.now) × (length bounds.now ≤ most_bounds) }
     requires bounds { AreBounds bounds.now }
-    requires room { length steps.now ≤ 65536 }
+    requires room { length steps.now ≤ most_step_bytes }
     ensures { IsWholeDoubtIn (Ok scramble.now) steps.now bounds.now text.now lines.now result }
 {
     let corners = AttemptCorners::of(scramble, steps, bounds);

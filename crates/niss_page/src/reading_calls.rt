@@ -3,12 +3,12 @@ ghost use Rattle.std.specs.Prelude.{◌≡◌, ◌≤◌, ◌<◌, ◌*◌, ◌�
 ghost use Rattle.niss_text.specs.Plain.{IsPlain};
 ghost use Rattle.niss_text.specs.Lines.{Covers, Counts, Takes, TellsPlain, AreNumbered, Begins, BeginNumbered};
 ghost use Rattle.niss_text.specs.Groups.{AreGrouped};
-ghost use Rattle.niss_text.specs.Moves.{WritesMoves};
+ghost use Rattle.niss_text.specs.Moves.{WritesIfMoves, moves_of_number};
 ghost use Rattle.niss_text.specs.Known.{AreKnown, AreApart, AreOf, HaveLines, HaveNames, PartsTake};
 
 use niss_text::{
-    KnownAnswer, KnownPart, MovesPart, PlainAnswer, TextAnswer, TextLine, known_lines, plain_line,
-    text_lines, text_moves,
+    KnownAnswer, KnownPart, MovesOf, MovesPart, PlainAnswer, TextAnswer, TextLine, known_lines,
+    plain_line, text_lines, text_moves,
 };
 
 /// Writes a text as one line, with the place of each byte, as `plain_line` of `niss_text`.
@@ -42,7 +42,8 @@ pub extern "C" fn nissy_text_lines(text: &[u8], lines: &mut [TextLine]) -> TextA
 }
 
 /// Writes the moves of some lines of a text as one line, and tells where those of each stand, as `text_moves` of
-/// `niss_text`.
+/// `niss_text`. Which moves these are a number says, that of `MovesOf::of_number`; after another one the answer says `Usage`,
+/// and nothing is written.
 #[unsafe(no_mangle)]
 pub extern "C" fn nissy_text_moves(
     text: &[u8],
@@ -52,9 +53,12 @@ pub extern "C" fn nissy_text_moves(
     places: &mut [u64],
     parts: &mut [MovesPart],
 ) -> PlainAnswer
-    ensures { WritesMoves text.now lines.now which out.old out.new places.old places.new parts.old parts.new result }
+    ensures { WritesIfMoves (moves_of_number which) text.now lines.now out.old out.new places.old places.new parts.old parts.new result }
 {
-    text_moves(text, lines, which, out, places, parts)
+    match MovesOf::of_number(which) {
+        Some(of) => text_moves(text, lines, of, out, places, parts),
+        None => PlainAnswer::refusal(),
+    }
 }
 
 /// Tells which part of a text of solutions is of which scramble that is known, and of each line what it is, as

@@ -1,4 +1,4 @@
-use Rattle.std.proofs.Common.{◌≡◌, ◌∙◌, ◌≤◌, ◌+◌, ◌∷◌, [], List, true, length, take, min, sym, ap, refl, subst, arith, rules}
+use Rattle.std.proofs.Common.{◌≡◌, ◌∙◌, ◌≤◌, ◌+◌, ◌∷◌, [], List, true, length, take, min, sym, ap, subst, arith, rules}
 use Rattle.std.specs.List.{list_any}
 use Rattle.niss_text.specs.Moves.{is_wanted, most_bytes}
 use Rattle.niss_text.specs.declared.moves.MovesOf.TheVariants.{Solution, EachStep}
@@ -17,7 +17,7 @@ returns-in_err-count-clause-room c = λ one two.
     at_least (length c.args.out.now) (length c.args.places.now) (most_bytes (line ∷ [])) (omega (arith, all, one)) (omega (arith, all, two)) in
     let enough : most_bytes (line ∷ []) ≤ c.room_of-room.result = c.room_of-room.ensures.enough (omega (arith, within, c.min.ensures)) in
     let only : most_bytes c.from_ref.result.now ≡ most_bytes (line ∷ []) = ap most_bytes c.from_ref.ensures.value in
-    let none = c.in_err-count.ensures.room (omega arith) (omega (arith, only, enough, c.split_at_mut-scramble.ensures.front_len))
+    let none = c.in_err-count.ensures.room (omega (arith, only, enough, c.split_at_mut-scramble.ensures.front_len))
     (omega (arith, only, enough, c.split_at_mut-scramble_places.ensures.front_len)) in
     absurd (cc none)
 
@@ -30,7 +30,7 @@ returns-clause-is c =
     let scramble = take c.in_ok-count.count c.moves_of.new.out in
     let places = take c.in_ok-count.count c.moves_of.new.places in
     let written : AreWritten c.args.text.now EachStep (line ∷ []) scramble places =
-    subst (λ (lines : List TextLine). AreWritten c.args.text.now EachStep lines scramble places) c.from_ref.ensures.value (c.in_ok-count.ensures.are EachStep refl) in
+    subst (λ (lines : List TextLine). AreWritten c.args.text.now EachStep lines scramble places) c.from_ref.ensures.value c.in_ok-count.ensures.are in
     begun_if c.args.text.now c.args.lines.now line rest scramble places c.is_solved_by.result are some written c.is_solved_by.ensures.is
 
 pub returns-clause-room : goal.returns-clause-room

@@ -1,7 +1,7 @@
 use Rattle.std.proofs.Common.{None, Ok, Option, subst}
 use Rattle.niss_embed.specs.LostTurn.{IsLostAt}
 use Rattle.niss_embed.specs.ShownTurn.{shown_at, shown_between}
-use Rattle.niss_embed.specs.declared.attempts.Doubt.{Doubt}
+use Rattle.niss_embed.specs.declared.doubts.Doubt.{Doubt}
 use Rattle.niss_embed.proofs.LostLemmas.{border_told, none_more}
 use Rattle.niss_embed.proofs.lost_turn.lost_turn.Goals as goal
 
@@ -15,7 +15,7 @@ loop-number-preserved c =
     let number = c.loop-number.number in
     let border = c.loop-number.border in
     let here : IsLostAt scramble steps bounds number (shown_at text lines number) None =
-    border_told scramble steps bounds text lines number border None (subst (λ (it : Option Doubt). IsLostAt scramble steps bounds border.number (shown_between border.text.now border.behind border.before border.has_one_sign) it) c.in_default.is c.lost_at.ensures)
+    border_told scramble steps bounds text lines number border None (subst (λ (it : Option Doubt). IsLostAt scramble steps bounds border.number (shown_between border.text.now border.above border.below border.has_one_sign) it) c.in_default.is c.lost_at.ensures)
     c.loop-number.invariant.is_border in
     record {
       is_border = c.next-border.ensures text lines number c.loop-number.invariant.is_border;

@@ -11,9 +11,9 @@ returns c =
     let bounds = c.args.whole.now.bounds.now in
     let places = c.args.exchange.now in
     let front_is : map (read_byte AsWritten) c.stretch.result.now ≡ steps_line steps bounds 0 places.first = ap (map (read_byte AsWritten)) c.stretch.ensures.is in
-    let early_is : map (read_byte AsWritten) c.stretch-2.result.now ≡ steps_line steps bounds places.middle places.behind = ap (map (read_byte AsWritten)) c.stretch-2.ensures.is in
+    let early_is : map (read_byte AsWritten) c.stretch-2.result.now ≡ steps_line steps bounds places.middle places.last = ap (map (read_byte AsWritten)) c.stretch-2.ensures.is in
     let late_is : map (read_byte AsWritten) c.stretch-3.result.now ≡ steps_line steps bounds places.first places.middle = ap (map (read_byte AsWritten)) c.stretch-3.ensures.is in
-    let rest_is : map (read_byte AsWritten) c.stretch-rest.result.now ≡ steps_line steps bounds places.behind (number_of_steps bounds) =
+    let rest_is : map (read_byte AsWritten) c.stretch-rest.result.now ≡ steps_line steps bounds places.last (number_of_steps bounds) =
     ap (map (read_byte AsWritten)) c.stretch-rest.ensures.is in
     c.solves_so.ensures _
     (c.feed.ensures.bytes _ (c.feed_with_blank-3.ensures.bytes _ (c.feed_with_blank-2.ensures.bytes _ (c.feed_with_blank.ensures.bytes [] c.new-reader.ensures.bytes))))

@@ -5,15 +5,15 @@ use Rattle.niss_embed.proofs.parts.first_part.Goals as goal
 
 pub loop-first-init : goal.loop-first-init
 loop-first-init c = record {
-  before = c.begin-before.ensures c.args.scramble.now c.args.text.now c.args.bounds.now c.requires.corners;
+  before = c.begin-before.ensures c.args.whole.now.scramble.now c.args.whole.now.steps.now c.args.whole.now.bounds.now c.requires.whole.corners;
   none = λ q among less. absurd (omega (arith, less));
 }
 
 pub loop-first-preserved : goal.loop-first-preserved
 loop-first-preserved c =
-    let scramble = c.args.scramble.now in
-    let text = c.args.text.now in
-    let bounds = c.args.bounds.now in
+    let scramble = c.args.whole.now.scramble.now in
+    let text = c.args.whole.now.steps.now in
+    let bounds = c.args.whole.now.bounds.now in
     let first = c.loop-first.first in
     record {
       before = c.passed-before.ensures scramble text bounds first (first + 1) (c.longer.ensures scramble text bounds first c.loop-first.invariant.before);

@@ -6,6 +6,6 @@ use Rattle.niss_embed.proofs.parts.first_part.Given as goal
 
 abbrev pub invariant-loop-first : goal.invariant-loop-first
 invariant-loop-first l = record {
-  before : IsAroundPart l.scramble l.text l.bounds l.first l.first l.before;
-  none : NoneBefore (number_of_steps l.bounds) (solves_part (Ok l.scramble) l.text l.bounds) l.first;
+  before : IsAroundPart l.whole.scramble.now l.whole.steps.now l.whole.bounds.now l.first l.first l.before;
+  none : NoneBefore (number_of_steps l.whole.bounds.now) (solves_part (Ok l.whole.scramble.now) l.whole.steps.now l.whole.bounds.now) l.first;
 }

@@ -6,6 +6,6 @@ use Rattle.niss_embed.proofs.parts.part_from.Given as goal
 
 abbrev pub invariant-loop-step : goal.invariant-loop-step
 invariant-loop-step l = record {
-  around : IsAroundPart l.scramble l.text l.bounds l.first l.step l.around;
-  none : NoneFrom (solves_part (Ok l.scramble) l.text l.bounds) l.first (l.step + 1);
+  around : IsAroundPart l.whole.scramble.now l.whole.steps.now l.whole.bounds.now l.first l.step l.around;
+  none : NoneFrom (solves_part (Ok l.whole.scramble.now) l.whole.steps.now l.whole.bounds.now) l.first (l.step + 1);
 }

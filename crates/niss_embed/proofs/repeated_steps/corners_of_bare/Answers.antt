@@ -12,5 +12,5 @@ returns c scramble is =
 
 pub returns-then-around-2 : goal.returns-then-around-2
 returns-then-around-2 c scramble is =
-    bare_reads (slice_range c.args.text.now (slice_index c.args.bounds.now c.args.step) (slice_index c.args.bounds.now (c.args.step + 1)))
+    bare_reads (slice_range c.args.whole.now.steps.now (slice_index c.args.whole.now.bounds.now c.args.step) (slice_index c.args.whole.now.bounds.now (c.args.step + 1)))
     c.args.around.now.own c.if-around-2.true (is.are c.if-around.true).reads_own

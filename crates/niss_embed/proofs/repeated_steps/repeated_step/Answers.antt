@@ -5,19 +5,19 @@ use Rattle.niss_embed.proofs.repeated_steps.repeated_step.Goals as goal
 
 pub loop-step-init : goal.loop-step-init
 loop-step-init c = record {
-  before = c.begin-before.ensures c.args.scramble.now c.args.text.now c.args.bounds.now c.requires.corners;
+  before = c.begin-before.ensures c.args.whole.now.scramble.now c.args.whole.now.steps.now c.args.whole.now.bounds.now c.requires.whole.corners;
   none = λ k less. absurd (omega (arith, less));
 }
 
 pub solves_repeated-requires-clause-around : goal.solves_repeated-requires-clause-around
 solves_repeated-requires-clause-around c =
-    c.longer-around.ensures c.args.scramble.now c.args.text.now c.args.bounds.now c.loop-step.step c.loop-step.invariant.before
+    c.longer-around.ensures c.args.whole.now.scramble.now c.args.whole.now.steps.now c.args.whole.now.bounds.now c.loop-step.step c.loop-step.invariant.before
 
 pub loop-step-preserved : goal.loop-step-preserved
 loop-step-preserved c =
-    let scramble = c.args.scramble.now in
-    let text = c.args.text.now in
-    let bounds = c.args.bounds.now in
+    let scramble = c.args.whole.now.scramble.now in
+    let text = c.args.whole.now.steps.now in
+    let bounds = c.args.whole.now.bounds.now in
     let step = c.loop-step.step in
     record {
       before = c.passed-before.ensures scramble text bounds step (step + 1) (c.longer-around.ensures scramble text bounds step c.loop-step.invariant.before);

@@ -5,6 +5,6 @@ use Rattle.niss_embed.proofs.repeated_steps.repeated_step.Given as goal
 
 abbrev pub invariant-loop-step : goal.invariant-loop-step
 invariant-loop-step l = record {
-  before : IsAroundPart l.scramble l.text l.bounds l.step l.step l.before;
-  none : (k : ℕ) → k < l.step → solves_repeated (Ok l.scramble) l.text l.bounds k ≡ false;
+  before : IsAroundPart l.whole.scramble.now l.whole.steps.now l.whole.bounds.now l.step l.step l.before;
+  none : (k : ℕ) → k < l.step → solves_repeated (Ok l.whole.scramble.now) l.whole.steps.now l.whole.bounds.now k ≡ false;
 }

@@ -8,5 +8,5 @@ use Rattle.niss_embed.proofs.step_sets.feed_steps.Given as goal
 abbrev pub invariant-loop-step : goal.invariant-loop-step
 invariant-loop-step l = record {
   fed : l.reader.fed ≤ l.step * 65538;
-  bytes : IsFed l.reader (flat_map (step_with l.text l.bounds l.set) (range_with_len 0 l.step));
+  bytes : IsFed l.reader (flat_map (step_with l.whole.steps.now l.whole.bounds.now l.set) (range_with_len 0 l.step));
 }

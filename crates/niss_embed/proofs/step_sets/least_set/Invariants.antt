@@ -6,6 +6,6 @@ use Rattle.niss_embed.proofs.step_sets.least_set.Given as goal
 
 abbrev pub invariant-loop-number : goal.invariant-loop-number
 invariant-loop-number l = record {
-  tails : l.corners.are_lines ≡ true → AreTails l.text l.bounds (of (l.number - 1)) 0 l.tails;
-  none : NoneBelow (solves_with (Ok l.scramble) l.text l.bounds) l.number;
+  tails : l.whole.corners.now.are_lines ≡ true → AreTails l.whole.steps.now l.whole.bounds.now (of (l.number - 1)) 0 l.tails;
+  none : NoneBelow (solves_with (Ok l.whole.scramble.now) l.whole.steps.now l.whole.bounds.now) l.number;
 }

@@ -8,7 +8,7 @@ use Rattle.niss_embed.specs.MovedStep.{is_elsewhere}
 use Rattle.niss_embed.specs.Parts.{bounds_of}
 use Rattle.niss_embed.specs.ShownTurn.{shown_at}
 use Rattle.niss_embed.specs.WholeDoubt.{IsWholeDoubtIn, TellsWhole, is_beyond}
-use Rattle.niss_embed.specs.declared.attempts.Doubt.{Doubt}
+use Rattle.niss_embed.specs.declared.doubts.Doubt.{Doubt}
 use Rattle.niss_embed.proofs.whole_doubt.doubt_of_whole.Goals as goal
 
 not_shown : (shown : Option Doubt) → None ≡ shown_if false shown
@@ -22,11 +22,11 @@ never_both false = refl
 -- Nothing solves a scramble that can't be read.
 none_of_fault : (fault : ReadFault) (steps bounds text : List ℕ) (lines : List TextLine) → IsWholeDoubtIn (Err fault) steps bounds text lines None
 none_of_fault fault steps bounds text lines = record {
-  lost = None;
-  is_lost = λ k less i turn. not_shown (shown_at text lines k (turn_numbered i));
+  first = None;
+  is_first = λ k less i turn. not_shown (shown_at text lines k (turn_numbered i));
   told_is = record {
-    turned = None;
-    is_turned = record { first = None; is_first = λ k less rotation other. refl; told_is = refl };
+    first = None;
+    is_first = record { first = None; is_first = λ k less rotation other. refl; told_is = refl };
     told_is = record { first = None; is_first = λ k less place within. never_both (is_elsewhere k place); told_is = refl };
   };
 }

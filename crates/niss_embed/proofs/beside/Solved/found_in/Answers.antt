@@ -1,7 +1,16 @@
-use Rattle.std.proofs.Common.{◌≡◌, ◌≤◌, ◌++◌, ◌∷◌, [], rules, arith}
+use Rattle.std.proofs.Common.{◌≡◌, ◌≤◌, ◌++◌, ◌∷◌, [], append-nil, refl, rules, arith}
 use Rattle.niss_text.specs.Moves.{most_bytes}
 use Rattle.niss_embed.proofs.BesideLemmas.{most_of_one, one_above}
 use Rattle.niss_embed.proofs.beside.Solved.found_in.Goals as goal
+
+pub loop-line-init : goal.loop-line-init
+loop-line-init c =
+    let it = c.args.self.now in
+    record {
+      found = record { below = []; whole = append-nil c.args.lines.now; is_found = c.nothing-found.ensures it.text.now it.scramble.now it.solution.now };
+      room = refl;
+      places = refl;
+    }
 
 pub returns-in_err-seen-clause-room : goal.returns-in_err-seen-clause-room
 returns-in_err-seen-clause-room c = λ one two.

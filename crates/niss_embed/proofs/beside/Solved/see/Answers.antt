@@ -1,4 +1,4 @@
-use Rattle.std.proofs.Common.{◌∙◌, sym, refl, subst, take, List}
+use Rattle.std.proofs.Common.{◌∙◌, sym, subst, take, List}
 use Rattle.niss_text.specs.declared.moves.MovesOf.TheVariants.{EachStep}
 use Rattle.niss_text.specs.declared.text_line.TextLine.{TextLine}
 use Rattle.niss_embed.specs.Doubts.{AreWritten}
@@ -13,7 +13,7 @@ returns-clause-is c =
     seen_long it.text.now c.args.line.now it.scramble.now it.solution.now c.see_line.result (sym c.if-not-is_long_other.false ∙ c.is_long_other.ensures) (record {
       moves = moves;
       places = places;
-      are_moves = subst (λ (lines : List TextLine). AreWritten it.text.now EachStep lines moves places) c.from_ref.ensures.value (c.in_ok-count.ensures.are EachStep refl);
+      are_moves = subst (λ (lines : List TextLine). AreWritten it.text.now EachStep lines moves places) c.from_ref.ensures.value c.in_ok-count.ensures.are;
       apart = c.see_line.ensures.apart;
       slip = c.see_line.ensures.slip;
     })

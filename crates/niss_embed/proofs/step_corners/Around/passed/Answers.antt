@@ -7,7 +7,7 @@ use Rattle.niss_embed.proofs.TailLemmas.{steps_none, steps_stay_dead}
 use Rattle.niss_embed.proofs.step_corners.Around.passed.Goals as goal
 
 pub returns : goal.returns
-returns c scramble text bounds first behind is = record {
+returns c scramble text bounds first end is = record {
   attempt = is.attempt;
   ordered = (omega arith, is.ordered.1);
   are = λ known.
@@ -15,11 +15,11 @@ returns c scramble text bounds first behind is = record {
       let up = (is.attempt.are_steps known).are_bounds.ascend in
       record {
         reads_before = subst (λ (bytes : List ℕ). Reads bytes c.then.result)
-            (joined_steps text (slice_index bounds 0) (slice_index bounds first) (slice_index bounds behind)
-            (ascends_between bounds 0 first up (omega arith) (omega (arith, is.ordered.0, is.ordered.1))) (ascends_between bounds first behind up is.ordered.0 is.ordered.1))
-            (c.then.ensures (steps_line text bounds 0 first) (steps_line text bounds first behind) own.reads_before own.reads_own
-            (steps_stay_dead text bounds 0 first behind (is.attempt.are_parted known) up (omega arith) is.ordered.0 is.ordered.1));
-        reads_own = subst (λ (bytes : List ℕ). Reads bytes c.nothing.result) (sym (steps_none text bounds behind)) c.nothing.ensures;
+            (joined_steps text (slice_index bounds 0) (slice_index bounds first) (slice_index bounds end)
+            (ascends_between bounds 0 first up (omega arith) (omega (arith, is.ordered.0, is.ordered.1))) (ascends_between bounds first end up is.ordered.0 is.ordered.1))
+            (c.then.ensures (steps_line text bounds 0 first) (steps_line text bounds first end) own.reads_before own.reads_own
+            (steps_stay_dead text bounds 0 first end (is.attempt.are_parted known) up (omega arith) is.ordered.0 is.ordered.1));
+        reads_own = subst (λ (bytes : List ℕ). Reads bytes c.nothing.result) (sym (steps_none text bounds end)) c.nothing.ensures;
         ends = own.ends;
       };
 }
