@@ -42,9 +42,9 @@ enum nissy_line_kind {
 /* What makes one doubt that a line is read as it was meant. */
 enum nissy_doubt {
     NISSY_NO_DOUBT = 0,
-    NISSY_ANOTHER_SCRAMBLE = 1,  /* moves stand before or after all of a scramble; or it is called a step, such as DR; or it has no steps, and others
-                                  * of the text begin and end with R' U' F, or it stands again below; of a check that isn't solved: the scramble
-                                  * is by itself, or another one stands beside a known scramble's solution */
+    NISSY_ANOTHER_SCRAMBLE = 1,  /* a scramble has no steps, and others of the text begin and end with R' U' F, or it stands again below, or it has no
+                                  * head and stands above one that has a word for its head, such as "Scramble:"; of a check that isn't solved:
+                                  * the scramble is by itself, or another one stands beside a known scramble's solution */
     NISSY_SEVERAL_SOLUTIONS = 2, /* which of several groups is the solution can't be seen, or a list has those of several scrambles; or a step stands
                                   * below one that follows it, by their numbers, or by EO, DR, HTR and finish in their labels or comments: of
                                   * several names the last one says which step it is, and the first one what may stand below it; of a check
@@ -54,7 +54,9 @@ enum nissy_doubt {
     NISSY_LETTERS = 4,           /* letters stand together as moves don't elsewhere in the line, such as F2L or xD */
     NISSY_SMALL_LETTERS = 5,     /* a scramble has a turn in a small letter, or a step has no others */
     NISSY_COMMENT = 6,           /* three moves stand one after another in a comment, also in a line that has none before it, or turns of the cube
-                                  * by themselves; or a letter may be of words, as in "R U layer" or "EO F". Of a check: a single capital letter
+                                  * by themselves, or, after the moves of a step, two turns of faces, as in "// R U", that name no axis, as "F B"
+                                  * does; or a letter may be of words, as in "R U layer" or "EO F", or a y between blanks among the moves of a
+                                  * step, which joins words in Spanish. Of a check: a single capital letter
                                   * of a face, by itself, ends the moves of a step, or they begin with it, and with a turn there that takes it
                                   * back, such as F' of F, all of at most twelve steps solve */
     NISSY_REPETITION = 7,        /* moves are said to be made several times, as in "(R U)x2", at the end of a step "R U x2", or in a comment */
@@ -68,16 +70,24 @@ enum nissy_doubt {
                                   * that 2 or 3 may follow. Or else, where the moves of a step begin, all solve once the whole cube is turned
                                   * before that step, or else once that step stands elsewhere, before another one or after the last one. This is
                                   * told only of at most twelve steps, each on a line of its own, of at most NISSY_MOST_STEPS bytes in all */
-    /* 9, 10 and 13 are told of checks */
-    NISSY_STEP_OR_SCRAMBLE = 11, /* a line after the scramble may be of it, or of another one; or a step after which nothing is said may be the
-                                  * scramble: it is called so, or the scramble is called the solution. Of a check this counts also if it is
-                                  * solved */
-    NISSY_SIGNS = 12             /* moves may be written by signs that aren't read so: by commas between some of them, by letters that look like
+    NISSY_A_PART = 9,            /* only of a check: a part of the steps solves the scramble, as nissy_solving_part tells */
+    NISSY_WHICH_SCRAMBLE = 10,   /* only of a check: it can't be seen which of the known scrambles it is a solution of, or it solves another one */
+    NISSY_STEP_OR_SCRAMBLE = 11, /* a line after the scramble may be of it, or of another one; or a step may be the scramble: it is called so, or
+                                  * nothing is said after it, and the scramble is called the solution; or a line of the scramble may have a step:
+                                  * moves stand before or after all of a scramble, or it is called a step, such as DR. Of a check this counts
+                                  * also if it is solved */
+    NISSY_SIGNS = 12,            /* moves may be written by signs that aren't read so: by commas between some of them, by letters that look like
                                   * theirs, such as wide ones, or in a link; or so many have no apostrophe that these may have been lost, or one of
                                   * so many is a slice, whose letter F or B was taken for; or R' U' F stands at one end of a scramble, or a tab
                                   * between some moves; of a check: a digit, "!", "?", "|" or "&" with which begins what follows the moves of a step,
                                   * or one of the last four before them, with blanks between at most, or "()" at an end of them, and no other side
                                   * of a step has such a sign, and with a turn there all of at most twelve steps solve */
+    NISSY_ANOTHER_ATTEMPT = 13   /* only of a check: another attempt may begin where it is told, though all is solved: the scramble is by itself; or
+                                  * all before a step of the solution is, which isn't its first one, and whose moves have 20 bytes or more; or two
+                                  * steps stand one after another that aren't of the solution, whose moves have 40 bytes or more, and after which
+                                  * nothing is said, and neither solves. What isn't solved has another attempt in it, if nothing else makes one doubt
+                                  * it, at a step whose moves have 20 bytes or more, if the steps of the solution after it solve them as a scramble.
+                                  * Of the steps of 20 bytes or more that may be such the first twelve are tried, and the first that is one is told */
 };
 
 /* A line of such a text. The places are in bytes of the text, from 0, and don't fall from one to the next, nor from line to line. Its moves
@@ -117,7 +127,8 @@ nissy_text_answer nissy_text_lines(const uint8_t *text, size_t text_length, niss
 #define NISSY_NO_SCRAMBLE UINT64_MAX
 
 /* A part of a text that has only solutions, of scrambles that are known: what stands under a head, or in a block between blank lines if no line has
- * a head and several scrambles are known. */
+ * a head and several scrambles are known. Words may follow a head that has the number of a scramble, as in "Attempt 2: DNF" or, after a blank line,
+ * "2. 23 moves", unless another head has it by itself, or there are just as many blocks as scrambles. */
 typedef struct nissy_known_part {
     uint64_t scramble;   /* which of the scrambles it is of, from 0, or NISSY_NO_SCRAMBLE */
     uint64_t begin;      /* where its first line begins that isn't blank, in bytes of the text */
@@ -206,15 +217,6 @@ typedef struct nissy_part_answer {
  * has no moves, doesn't solve. It takes no memory. */
 nissy_part_answer nissy_solving_part(const uint8_t *scramble, size_t scramble_length, const uint8_t *steps, size_t steps_length);
 
-/* What makes one doubt a check too. Another attempt may begin where the third is told, though all is solved: the scramble is by itself; or all before
- * a step of the solution is, which isn't its first one, and whose moves have 20 bytes or more; or two steps stand one after another that aren't of
- * the solution, whose moves have 40 bytes or more, and after which nothing is said, and neither solves. What isn't solved has another attempt in it,
- * if nothing else makes one doubt it, at a step whose moves have 20 bytes or more, if the steps of the solution after it solve them as a scramble.
- * Of the steps of 20 bytes or more that may be such the first twelve are tried, and the first that is one is told. */
-#define NISSY_A_PART 9          /* a part of the steps solves the scramble, as nissy_solving_part tells */
-#define NISSY_WHICH_SCRAMBLE 10 /* it can't be seen which of the known scrambles it is a solution of, or it solves another one */
-#define NISSY_ANOTHER_ATTEMPT 13
-
 /* The place of what has none in the text. */
 #define NISSY_NO_PLACE UINT64_MAX
 
@@ -249,11 +251,12 @@ typedef struct nissy_attempts_answer {
     uint64_t attempts; /* how many there are; of NISSY_ROOM 0 if the moves have no room */
 } nissy_attempts_answer;
 
-/* Checks all attempts of a text that have a scramble, by the lines that nissy_text_lines tells of it: `parts` and `ends` are then empty. Or it
- * checks the parts that nissy_known_lines tells of a text, with its lines, of as many known scrambles as `ends` has: these stand one after another
- * in `scrambles`, and each ends there. A part is then the solution of its scramble by its first lines. If one attempt beside them has a scramble,
- * there is no other solution, and both scrambles make the same cube, held the same way, that attempt is checked; else one with a scramble is
- * NISSY_ANOTHER_SCRAMBLE. A part without lines is a scramble without a solution.
+/* Checks all attempts of a text that have a scramble, by the lines that nissy_text_lines tells of it: `parts` and `ends` are then empty. Or it checks
+ * the parts that nissy_known_lines tells of a text, with its lines, of as many known scrambles as `ends` has: these stand one after another in
+ * `scrambles`, and each ends there. A part is then the solution of its scramble by its first lines. If one attempt beside them has a scramble, there
+ * is no other solution, and both scrambles make the same cube, held the same way, that attempt is checked; else one with a scramble is
+ * NISSY_ANOTHER_SCRAMBLE. A part without lines is a scramble without a solution: begin `parts` with one without lines for each known scramble; a
+ * later check with the same `scramble` replaces its own.
  *
  * Six bytes and places for each from `moves` to `comment` of a line, and six for each line, are never too few for `out` and `places`, which the call
  * uses; as many checks as lines and parts aren't either. If the status isn't NISSY_DONE, nothing in the rooms says anything. It takes no memory. Of

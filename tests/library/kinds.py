@@ -146,7 +146,7 @@ def slips(tally: Tally) -> None:
 def doubts(tally: Tally) -> None:
     """Each reason for a doubt, and where it is seen."""
     texts = {
-        f"{FIRST} R U": ("another scramble", 1, 1),
+        f"{FIRST} R U": ("step or scramble", 1, 1),
         "R U F\n\nEO: D\n\nDR: L\n\nD L B": ("several solutions", 3, 5),
         "R U F\n\nR U // premoves\nF' // EO": ("side", 3, 8),
         "R U F\n\nR' U' // EO\nback to normal\nF' // DR": ("side", 4, 1),
@@ -181,9 +181,17 @@ def doubts(tally: Tally) -> None:
         "R U F\n\nhttps://cubing/?alg=F-_U-": ("signs", 3, 1),
         "R U F\n\nSolution: \uff26 \uff35": ("signs", 3, 11),
         "R U F\n\nF' U R in chat": ("comment", 3, 6),
+        "R U F D\n\nD' F' y U' // EO\nR'": ("comment", 3, 7),
+        "R U F D\n\nD' // F' U' here\nR'": ("comment", 3, 7),
+        "R U F D\n\nD' // U2 D axis\nR'": ("comment", 3, 7),
+        "R U F D\n\nD' // F\u2019 U\nR'": ("comment", 3, 7),
         "R U F\n\nsquare F F' U'": ("comment", 3, 8),
         "R U F\n\nEO F F' U'": ("comment", 3, 4),
-        "R U F // EO\n\nF' U' // DR": ("another scramble", 1, 1),
+        "R U F // EO\n\nF' U' // DR": ("step or scramble", 1, 1),
+        # the first step stands on the line of its scramble, which all below it solves
+        "R U F D' // EO\nD F' // DR\nU' R' // finish": ("step or scramble", 1, 1),
+        f"{FIRST} {STEPS[0]} // EO\n{STEPS[1]} // DR\n{' '.join(STEPS[2:])}": ("step or scramble", 1, 1),
+        f"{FIRST} {STEPS[0]}\n\n{STEPS[1]}\n{' '.join(STEPS[2:])}": ("step or scramble", 1, 1),
         "R U F // x\n\nF' U'": ("comment", 1, 7),
         "R U F\n\nEO // F' U' R'": ("comment", 3, 4),
         "R U F\n\nEO // F' U'\nDR // L' F2 U'": ("comment", 4, 4),
@@ -204,6 +212,8 @@ def doubts(tally: Tally) -> None:
         # the solution stands above its scramble, with which all is solved
         "Solution: F' U' R'\nScramble: R U F": ("step or scramble", 2, 11),
         "Solution: F' U' R'\n\nThe scramble: R U F": ("step or scramble", 3, 15),
+        "Solution: F' U' R'\nScramble: R U F // weekly": ("step or scramble", 2, 11),
+        "Sol: F' U' R'\nThe scramble: R U F (WCA)": ("step or scramble", 2, 15),
         "Sol (3): F' U' R'\n\nR U F": ("step or scramble", 3, 1),
         f"Solution: {OF_FIRST}\nScramble: {FIRST}": ("step or scramble", 2, 11),
         "R U F\n\nU' R' // DR\nF' // EO": ("several solutions", 4, 1),
@@ -229,6 +239,10 @@ def doubts(tally: Tally) -> None:
         # what names the scramble is of it, names that stand together are of one step, and numbers after moves count these
         "R U F\n\nSolve of the scramble: F' U' R'",
         "R U F\n\nF' // EO, good for HTR\nU' R // DR",
+        # axes, letters of words, and a y that is a turn with a sign
+        "R U F\n\nF' U' // EO on F B, or U D",
+        "R U F\n\nF' U' // 4c4e, or BR UF",
+        "R U F\n\nF' y' U'",
         "R U F\n\nF' // EO\nU' // DR-1\nL // EO+DR",
         "R U F\n\nF' U' (1)\n1: L",
         "R U F\n\nSolution: F' U' R\n\nNo insertion",

@@ -28,3 +28,4 @@ pub mod FrontLemmas
 pub mod ListedWords
 pub mod GroupedLines
 pub mod NotationLemmas
+pub mod WordedLemmas

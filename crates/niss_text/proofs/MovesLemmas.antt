@@ -5,43 +5,23 @@ use Rattle.std.proofs.Math.Seq.{set_out}
 use Rattle.std.proofs.lemmas.Bool.{cases_lt}
 use Rattle.std.proofs.lemmas.List.{append-nil, take_all, take-append-le, take_more_set, length-set, drop-set-lt, drop-drop}
 use Rattle.std.proofs.lemmas.List.Elements.{All-append}
+use Rattle.std.proofs.lemmas.Option.{slice_get_past}
 use Rattle.niss_text.specs.declared.left_out.LeftOut.{LeftOut}
 use Rattle.niss_text.specs.declared.moves.MovesOf.{MovesOf}
-use Rattle.niss_text.specs.declared.moves.MovesOf.TheVariants.{Scramble, Steps, Solution, EachStep}
 use Rattle.niss_text.specs.declared.moves.MovesPart.{MovesPart}
 use Rattle.niss_text.specs.declared.pen.Beginning.{Beginning}
 use Rattle.niss_text.specs.declared.piece.Place.TheVariants.{Among}
 use Rattle.niss_text.specs.declared.text_line.TextLine.{TextLine}
 use Rattle.niss_text.specs.Pieces.{line_of, places_of}
 use Rattle.niss_text.specs.LeftOut.{left_none, left_of_all, both, bits_of}
-use Rattle.niss_text.specs.Moves.{LineMoves, AreMoves, AreJoined, opening, closing, opening_place, closing_place, bytes_of_moves, places_of_moves, gap_of, gap_after, place_after, left_around, left_of_moves, part_of, is_wanted, number_of_moves}
+use Rattle.niss_text.specs.Moves.{LineMoves, AreMoves, AreJoined, opening, closing, opening_place, closing_place, bytes_of_moves, places_of_moves, gap_of, gap_after, place_after, left_around, left_of_moves, part_of, is_wanted, moves_of_number, numbered_moves}
 use Rattle.niss_text.specs.Written.{PutsPart, AddsLine}
 use Rattle.niss_text.proofs.PlainLemmas.{both_assoc, both_none}
 unfoldable use Rattle.niss_text.specs.Moves.{bytes_after, places_after, parts_after, left_of_lines, most_bytes}
 
-pub same_moves : (a b : MovesOf) → number_of_moves a ≡ number_of_moves b → a ≡ b
-same_moves Scramble Scramble h = refl
-same_moves Scramble Steps h = absurd (omega arith)
-same_moves Scramble Solution h = absurd (omega arith)
-same_moves Scramble EachStep h = absurd (omega arith)
-same_moves Steps Scramble h = absurd (omega arith)
-same_moves Steps Steps h = refl
-same_moves Steps Solution h = absurd (omega arith)
-same_moves Steps EachStep h = absurd (omega arith)
-same_moves Solution Scramble h = absurd (omega arith)
-same_moves Solution Steps h = absurd (omega arith)
-same_moves Solution Solution h = refl
-same_moves Solution EachStep h = absurd (omega arith)
-same_moves EachStep Scramble h = absurd (omega arith)
-same_moves EachStep Steps h = absurd (omega arith)
-same_moves EachStep Solution h = absurd (omega arith)
-same_moves EachStep EachStep h = refl
-
-pub moves_known : (of : MovesOf) → number_of_moves of ≤ 3
-moves_known Scramble = omega arith
-moves_known Steps = omega arith
-moves_known Solution = omega arith
-moves_known EachStep = omega arith
+-- no moves have a number beyond these
+pub no_moves : (n : ℕ) → 3 < n → None ≡ moves_of_number n
+no_moves n high = sym (slice_get_past numbered_moves n (omega (arith, high)))
 
 -- what stands around the moves of a line, and these, make them with their brackets
 four : (a b c d e : List ℕ) → ((a ++ (b ++ c)) ++ d) ++ e ≡ a ++ (b ++ (c ++ d ++ e))

@@ -4,7 +4,7 @@ use Rattle.niss_text.specs.Signs.{is_digit, is_within}
 use Rattle.niss_text.specs.declared.doubts.Doubt.{Doubt}
 use Rattle.niss_text.specs.declared.doubts.Doubt.TheVariants.{Nothing, AnotherScramble, SeveralSolutions, Side, Letters, SmallLetters, Comment, Repetition, Insertion, StepOrScramble, Signs}
 use Rattle.niss_text.specs.declared.sights.Sight.{Sight}
-use Rattle.niss_text.specs.declared.sights.Sight.TheVariants.{Small, Capital, Joined, Parted, Prime, Repeated, Marked, Comma, Gap}
+use Rattle.niss_text.specs.declared.sights.Sight.TheVariants.{Small, Capital, Joined, Parted, Prime, Repeated, Marked, Comma, Gap, Joint, Pair}
 use Rattle.niss_text.specs.declared.text_line.TextLine.{TextLine}
 
 abbrev pub number_of : Doubt → ℕ
@@ -94,10 +94,37 @@ is_between text k = is_comma (slice_index text k) && (is_after_move text k && is
 unfoldable pub is_gap : List ℕ → ℕ → Bool
 is_gap text k = (slice_index text k == 32) && not (is_comma (slice_index text (k - 1)) || is_comma (slice_index text (k + 1)))
 
+-- a y between blanks at a place, which joins words in Spanish
+unfoldable pub is_joint : List ℕ → ℕ → Bool
+is_joint text k = (slice_index text k == 121) && ((slice_index text (k - 1) == 32) && (slice_index text (k + 1) == 32))
+
+-- how many bytes a turn has whose letter stands at a place: with a 2, an apostrophe or U+2019, or none of them
+abbrev pub turn_size : List ℕ → ℕ → ℕ
+turn_size text k = if (slice_index text (k + 1) == 50) || (slice_index text (k + 1) == 39) then 2 else if slice_index text (k + 1) == 226 then 4 else 1
+
+-- letters of opposite faces
+abbrev pub are_opposite : ℕ → ℕ → Bool
+are_opposite a b =
+    if a == 85 then b == 68
+    else if a == 68 then b == 85
+    else if a == 82 then b == 76
+    else if a == 76 then b == 82
+    else if a == 70 then b == 66
+    else (a == 66) && (b == 70)
+
+-- the letters of two opposite faces stand at a place without signs, with one byte between: they name an axis
+abbrev pub is_axis : List ℕ → ℕ → Bool
+is_axis text k = are_opposite (slice_index text k) (slice_index text (k + 2)) && ((turn_size text k == 1) && (turn_size text (k + 2) == 1))
+
+-- two turns of faces stand at a place, with a blank between, and no letter beside them, which name no axis
+unfoldable pub is_pair : List ℕ → ℕ → Bool
+is_pair text k = (is_capital (slice_index text k) && not (is_letter (slice_index text (k - 1)))) && ((slice_index text (k + turn_size text k) == 32)
+    && ((is_capital (slice_index text (k + turn_size text k + 1)) && not (is_letter (slice_index text (k + turn_size text k + 2)))) && not (is_axis text k)))
+
 -- What is seen at a place of a text, after the first one of a part of it: a small letter of an outer turn, a capital
 -- one, a letter right after the sign of a move (but the w of a wide turn), a letter after something else, an
--- apostrophe, a number of times after brackets, a digit in square brackets before moves, a comma between a move and a letter, or a blank
--- without a comma beside it.
+-- apostrophe, a number of times after brackets, a digit in square brackets before moves, a comma between a move and a letter, a blank
+-- without a comma beside it, a y between blanks, or the first of two turns with a blank between.
 unfoldable pub sees : List ℕ → Sight → ℕ → Bool
 sees text Small k = is_small (slice_index text k)
 sees text Capital k = is_capital (slice_index text k)
@@ -108,6 +135,8 @@ sees text Repeated k = is_repeated text k
 sees text Marked k = is_marked text k
 sees text Comma k = is_between text k
 sees text Gap k = is_gap text k
+sees text Joint k = is_joint text k
+sees text Pair k = is_pair text k
 
 -- such a thing is seen nowhere in a part of a text
 abbrev pub HasNone : List ℕ → Sight → ℕ → ℕ → Type 0
@@ -128,6 +157,15 @@ pub record IsUncommentedStep (line : TextLine) : Type 0 where
   pub kind : line.kind ≡ 3
   pub comment : line.comment ≡ line.end
 
+-- a head stands before the moves of a line, or a label does
+abbrev pub HasTitle : TextLine → Type 0
+HasTitle line = (line.begin < line.head_end) ⊎ (line.label_begin < line.label_end)
+
+-- A line is a step that may be of a scramble: nothing stands after its moves, or what stands before them may call it one.
+pub record MayBeScramble (line : TextLine) : Type 0 where
+  pub kind : line.kind ≡ 3
+  pub said : (line.comment ≡ line.end) ⊎ HasTitle line
+
 -- the head of a line, or its label, is the word for a scramble
 abbrev pub IsCalledScramble : List ℕ → TextLine → Type 0
 IsCalledScramble text line = (slice_range text line.begin line.head_end ≡ codes "Scramble:")
@@ -138,8 +176,9 @@ IsCalledScramble text line = (slice_range text line.begin line.head_end ≡ code
 -- a note, of small letters only in a scramble, or in a step without a capital one. A line of the scramble or of the solution of which
 -- nothing is said has no letters together that aren't written as moves, and no number of times after brackets; one of
 -- the scramble has no small letter of a turn either, and one of the solution none without a capital one, and no digit
--- in square brackets among its moves. In both no comma stands among moves of which others are parted by blanks. Only a step
--- after which nothing is said may be of a scramble, and one is that is called so.
+-- in square brackets among its moves. In both no comma stands among moves of which others are parted by blanks. Only a line of
+-- a scramble may have a step too, and only a step may be of one, which is called so or after which nothing is said. One that is
+-- called so is told.
 pub record IsDoubted (text : List ℕ) (line : TextLine) : Type 0 where
   pub place : (line.begin ≤ line.doubt_at) × (line.doubt_at ≤ line.end)
   pub number : (line.doubt ≤ 8) ⊎ ((11 ≤ line.doubt) × (line.doubt ≤ 12))
@@ -160,6 +199,8 @@ pub record IsDoubted (text : List ℕ) (line : TextLine) : Type 0 where
   pub once_solved : line.doubt ≡ 0 → line.kind ≡ 3 → line.is_solution ≡ 1 → HasNone text Repeated line.moves line.comment
   pub commas : line.doubt ≡ 0 → (line.kind ≡ 2) ⊎ ((line.kind ≡ 3) × (line.is_solution ≡ 1)) →
       HasNone text Comma line.moves (line.comment - 2) ⊎ HasNone text Gap line.moves line.comment
-  pub uncommented : line.doubt ≡ 11 → IsUncommentedStep line
-  pub called : IsUncommentedStep line → IsCalledScramble text line → line.doubt ≡ 11
+  pub of_scramble : line.doubt ≡ 11 → (line.kind ≡ 2) ⊎ MayBeScramble line
+  pub called : line.kind ≡ 3 → IsCalledScramble text line → line.doubt ≡ 11
   pub unmarked : line.doubt ≡ 0 → line.kind ≡ 3 → line.is_solution ≡ 1 → HasNone text Marked (line.moves + 1) line.comment
+  pub unjoined : line.doubt ≡ 0 → line.kind ≡ 3 → line.is_solution ≡ 1 → HasNone text Joint (line.moves + 1) line.comment
+  pub unpaired : line.doubt ≡ 0 → line.kind ≡ 3 → line.is_solution ≡ 1 → HasNone text Pair line.comment line.end

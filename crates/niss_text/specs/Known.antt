@@ -179,3 +179,22 @@ pub record AreOf (text : List ℕ) (count : ℕ) (parts : List KnownPart) : Type
       ((get_or parts k none).scramble ≡ 18446744073709551615) ⊎ SaysAlone text parts k (get_or parts k none).scramble
   pub all : are_in_order text count parts ≡ false → (k scramble : ℕ) (none : KnownPart) → k < length parts → scramble < count →
       SaysAlone text parts k scramble → (get_or parts k none).scramble ≡ scramble
+
+-- A line is another one whose head ends there, of which nothing else is told: words follow, if it doesn't stand alone.
+pub record IsHeaded (line : TextLine) (head_end : ℕ) (is_alone : Bool) (it : TextLine) : Type 0 where
+  pub headed : (it.is_headed ≡ 1) × (it.head_end ≡ head_end)
+  pub kind : it.kind ≡ (if is_alone then 0 else 4)
+  pub placed : (it.begin ≡ line.begin) × (it.end ≡ line.end)
+  pub words : (it.label_begin ≡ head_end) × (it.label_end ≡ line.end)
+  pub none : (it.moves ≡ line.end) × (it.comment ≡ line.end)
+  pub flags : (it.is_solution ≡ 0) × (it.says_solution ≡ 0) × (it.is_inverse ≡ 0)
+  pub undoubted : (it.doubt ≡ 0) × (it.doubt_at ≡ line.end)
+
+-- A line is as it was, or a head is told of it that it hadn't, with the number of one of so many scrambles.
+abbrev pub IsOrHeaded : (text : List ℕ) (count : ℕ) (line it : TextLine) → Type 0
+IsOrHeaded text count line it =
+    (it ≡ line) ⊎ ((line.is_headed ≡ 0) × (it.is_headed ≡ 1) × (scramble_with (number_of_line text it) < count))
+
+-- so is each of some lines
+abbrev pub AreOrHeaded : (text : List ℕ) (count : ℕ) (lines new : List TextLine) → Type 0
+AreOrHeaded text count lines new = (k : ℕ) (none : TextLine) → IsOrHeaded text count (get_or lines k none) (get_or new k none)

@@ -1,5 +1,5 @@
 -- The moves of some lines of a text, as one line.
-use Rattle.std.specs.Prelude.{◌≡◌, ℕ, ◌+◌, ◌-◌, ◌*◌, ◌==◌, ◌<◌, ◌≤◌, ◌⊎◌, nat_lt, Bool, ◌&&◌, not, if◌then◌else◌, Option, None, Some, List, [], ◌∷◌, ◌++◌, length, take, drop, map, slice_range}
+use Rattle.std.specs.Prelude.{◌≡◌, ℕ, ◌+◌, ◌-◌, ◌*◌, ◌==◌, ◌≤◌, ◌⊎◌, nat_lt, Bool, ◌&&◌, not, if◌then◌else◌, Option, None, Some, List, [], ◌∷◌, ◌++◌, length, take, drop, map, slice_get, slice_range}
 use Rattle.std.specs.List.{All, filter, list_any}
 use Rattle.niss_text.specs.Signs.{is_digit}
 use Rattle.niss_text.specs.Pieces.{Part, ArePieces, StayRightly, HasNoTitle, text_of, line_of, places_of}
@@ -11,11 +11,12 @@ use Rattle.niss_text.specs.declared.moves.MovesOf.{MovesOf}
 use Rattle.niss_text.specs.declared.moves.MovesPart.{MovesPart}
 use Rattle.niss_text.specs.declared.moves.MovesOf.TheVariants.{Scramble, Steps, Solution, EachStep}
 
-abbrev pub number_of_moves : MovesOf → ℕ
-number_of_moves Scramble = 0
-number_of_moves Steps = 1
-number_of_moves Solution = 2
-number_of_moves EachStep = 3
+-- the moves that callers name by the numbers from 0 on, and those of a number
+abbrev pub numbered_moves : List MovesOf
+numbered_moves = Scramble ∷ Steps ∷ Solution ∷ EachStep ∷ []
+
+abbrev pub moves_of_number : ℕ → Option MovesOf
+moves_of_number n = slice_get numbered_moves n
 
 -- the lines whose moves are wanted: those of the scramble, all steps, or those of the solution
 abbrev pub is_wanted : MovesOf → TextLine → Bool
@@ -132,18 +133,28 @@ unfoldable pub most_bytes : List TextLine → ℕ
 most_bytes [] = 0
 most_bytes (line ∷ lines) = 3 * (line.comment - line.moves) + 3 + most_bytes lines
 
--- What a call does that writes the moves of some lines, those of a number, in rooms for bytes, for places, and for where
--- those of each line stand.
-pub record WritesMoves (text : List ℕ) (lines : List TextLine) (which : ℕ) (out_old out_new places_old places_new : List ℕ)
+-- What a call does that writes the moves of some lines in rooms for bytes, for places, and for where those of each line
+-- stand.
+pub record WritesMoves (text : List ℕ) (lines : List TextLine) (of : MovesOf) (out_old out_new places_old places_new : List ℕ)
     (parts_old parts_new : List MovesPart) (answer : PlainAnswer) : Type 0 where
-  pub joins : (of : MovesOf) → number_of_moves of ≡ which → answer.status ≡ 0 → (left : LeftOut) × (bits_of left ≡ answer.left_out)
+  pub joins : answer.status ≡ 0 → (left : LeftOut) × (bits_of left ≡ answer.left_out)
       × AreJoined text of lines (take answer.length out_new) (take answer.length places_new) left (length parts_old) parts_new
-  pub room : (of : MovesOf) → number_of_moves of ≡ which → most_bytes (filter (is_wanted of) lines) ≤ length out_old →
-      most_bytes (filter (is_wanted of) lines) ≤ length places_old → answer.status ≡ 0
-  pub known : which ≤ 3 → (answer.status ≡ 0) ⊎ (answer.status ≡ 4)
-  pub unknown : 3 < which → (answer.status ≡ 2) × (answer.left_out ≡ 0) × (answer.length ≡ 0) × (parts_new ≡ parts_old)
+  pub room : most_bytes (filter (is_wanted of) lines) ≤ length out_old → most_bytes (filter (is_wanted of) lines) ≤ length places_old →
+      answer.status ≡ 0
+  pub known : (answer.status ≡ 0) ⊎ (answer.status ≡ 4)
   pub within : (answer.length ≤ length out_old) × (answer.length ≤ length places_old)
   pub behind : drop answer.length out_new ≡ drop answer.length out_old
   pub behind_places : drop answer.length places_new ≡ drop answer.length places_old
-  pub behind_parts : (of : MovesOf) → number_of_moves of ≡ which →
-      drop (length (filter (is_wanted of) lines)) parts_new ≡ drop (length (filter (is_wanted of) lines)) parts_old
+  pub behind_parts : drop (length (filter (is_wanted of) lines)) parts_new ≡ drop (length (filter (is_wanted of) lines)) parts_old
+
+-- what is returned if a number is that of no moves: `Usage`
+abbrev pub refusal : PlainAnswer
+refusal = record { status = 2; left_out = 0; length = 0 }
+
+-- The same call by a number: if it is that of no moves, nothing is written.
+abbrev pub WritesIfMoves : Option MovesOf → (text : List ℕ) (lines : List TextLine) (out_old out_new places_old places_new : List ℕ)
+    (parts_old parts_new : List MovesPart) → PlainAnswer → Type 0
+WritesIfMoves (Some of) text lines out_old out_new places_old places_new parts_old parts_new answer =
+    WritesMoves text lines of out_old out_new places_old places_new parts_old parts_new answer
+WritesIfMoves None text lines out_old out_new places_old places_new parts_old parts_new answer =
+    (answer ≡ refusal) × (out_new ≡ out_old) × (places_new ≡ places_old) × (parts_new ≡ parts_old)

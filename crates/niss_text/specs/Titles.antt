@@ -1,5 +1,5 @@
 -- Moves with what is said of them: words before a colon that are no label, and a turn that is told from words by itself.
-use Rattle.std.specs.Prelude.{◌≡◌, ℕ, ◌+◌, ◌==◌, ◌⊎◌, Bool, true, false, not, ◌||◌, ◌&&◌, List, length, drop, slice_index, if◌then◌else◌}
+use Rattle.std.specs.Prelude.{◌≡◌, ℕ, ◌+◌, ◌==◌, ◌<◌, ◌⊎◌, Bool, true, false, not, ◌||◌, ◌&&◌, List, length, drop, slice_index, if◌then◌else◌}
 use Rattle.niss_text.specs.Signs.{is_within}
 use Rattle.niss_text.specs.Doubts.{is_capital, is_letter}
 
@@ -28,9 +28,19 @@ pub record IsNoStep (words after : List ℕ) : Type 0 where
   pub front : begins_with_step words ≡ false
   pub joined : is_joined (slice_index after 0) ≡ true → (k : ℕ) → slice_index words k ≡ 32 → begins_with_step (drop (k + 1) words) ≡ false
 
--- They are a label, or words that say nothing of moves: a turn follows the colon, or they are no step.
+-- a text begins with a half turn of a face and another turn, with a blank between
+unfoldable pub begins_with_pair : List ℕ → Bool
+begins_with_pair text = is_capital (slice_index text 0) && ((slice_index text 1 == 50) && ((slice_index text 2 == 32)
+    && (is_capital (slice_index text 3) && not (is_letter (slice_index text 4)))))
+
+-- no such turns stand in words
+abbrev pub HasNoPair : List ℕ → Type 0
+HasNoPair words = (k : ℕ) → k < length words → begins_with_pair (drop k words) ≡ false
+
+-- They are a label, or words that say nothing of moves: a turn follows the colon, and no two stand side by side before it; or they are
+-- no step.
 abbrev pub IsTitle : (words after : List ℕ) → Type 0
-IsTitle words after = HasTurn after ⊎ IsNoStep words after
+IsTitle words after = HasTurn after × HasNoPair words ⊎ IsNoStep words after
 
 -- a 2, or an apostrophe of those that are told, begins with three bytes
 unfoldable pub has_sign : ℕ → ℕ → ℕ → Bool

@@ -3,6 +3,8 @@ ghost use Rattle.std.specs.Prelude.{◌≡◌, ◌≤◌, ◌<◌, ◌-◌, ◌�
 ghost use Rattle.niss_text.specs.Doubts.{IsAsWritten, HasNone, sees};
 ghost use Rattle.niss_text.specs.declared.sights.Sight.TheVariants.{Small, Capital, Joined, Comma, Gap};
 
+use crate::body::are_long;
+use crate::marks::has_slice;
 use crate::sights::{Sight, first_seen};
 
 /// Where letters stand together in the moves of a line as moves don't elsewhere in it, or where the moves end: not if
@@ -61,4 +63,13 @@ pub fn comma_at(text: &[u8], from: usize, to: usize) -> usize
     } else {
         to
     }
+}
+
+/// Whether the moves of a line are as long as a scramble, and may have been printed otherwise: none is turned back, so that
+/// their apostrophes may have been lost, or one is of a slice.
+pub fn may_be_misread(text: &[u8], from: usize, to: usize) -> bool
+    requires { (from ≤ to) × (to ≤ length text.now) }
+{
+    are_long(from, to)
+        && (first_seen(text, from, to, Sight::Prime) == to || has_slice(&text[from..to]))
 }

@@ -7,8 +7,8 @@ ghost use Rattle.niss_text.specs.Groups.{AreGrouped, AreBelow, Goes, is_that};
 
 use crate::body::is_whole_scramble;
 use crate::doubts::{Sheet, judged};
-use crate::groups::{Group, Solutions, is_same};
-use crate::line::{Line, Numbers, cut_line};
+use crate::groups::{Group, Solutions, is_same, is_that};
+use crate::line::{Head, Line, Numbers, cut_line, head_in_front};
 use crate::outline::{is_head, length_behind_scramble, outline_of};
 use crate::sign::from_place;
 use crate::status::Status;
@@ -34,9 +34,11 @@ struct Attempt {
     numbers: Numbers,
     /// Prose before its scramble is told from it: it has a name, or steps.
     is_formed: bool,
-    /// Its scramble may be none: it isn't whole, and says that it is a step, or it is unlike others and has no steps, or it is
-    /// given again without any.
+    /// Its scramble may be none: it has no steps, and is unlike others or stands above one that has a head, or it is given again
+    /// without any.
     is_strange: bool,
+    /// Its scramble isn't whole, and says that it is a step: the first one may stand on its line.
+    has_step: bool,
     /// A sign may have been lost of the R' U' F at one end of its scramble.
     is_half_framed: bool,
     /// Its scramble is called the solution, and isn't whole.
@@ -73,13 +75,16 @@ fn first_attempt(
     let scramble_end = seen.scramble_end(lines, numbers);
     let solutions = Solutions::seen_in(&lines[scramble_end..], seen.title(lines), numbers);
     let scramble = seen.scramble(lines);
-    let is_unlike = !seen.is_whole() && (seen.is_step || (has_whole && !solutions.has_moves()));
-    let is_given_again = !solutions.has_lines && is_same(scramble, &text[seen.length..], numbers);
+    let rest = &text[seen.length..];
+    let is_above_scramble = !seen.has_name && head_in_front(rest, Numbers::OfLines) == Head::Word;
+    let is_unlike = !seen.is_whole() && (has_whole || is_above_scramble) && !solutions.has_moves();
+    let is_given_again = !solutions.has_lines && is_same(scramble, rest, numbers);
     Attempt {
         number,
         numbers,
         is_formed: seen.has_name || solutions.has_lines,
         is_strange: is_unlike || is_given_again,
+        has_step: seen.is_step && !seen.is_whole(),
         is_half_framed: seen.is_half_framed(lines),
         is_swapped: seen.is_solution && !seen.is_whole(),
         solution: if seen.has_several {
@@ -106,6 +111,7 @@ impl Attempt {
         Sheet {
             has_solution: self.solution.is_some(),
             is_strange: self.is_strange,
+            has_step: self.has_step,
             is_half_framed: self.is_half_framed,
             is_stray: self.stray == Some(at),
             is_swapped: self.is_swapped,
@@ -137,16 +143,6 @@ impl Attempt {
         } else {
             LineKind::Note
         }
-    }
-}
-
-/// Whether a group is the solution, if one is.
-fn is_that(solution: Option<usize>, group: usize) -> bool
-    ensures { result ≡ is_that solution group }
-{
-    match solution {
-        Some(number) => number == group,
-        None => false,
     }
 }
 
@@ -355,6 +351,7 @@ fn solution_alone(text: &[u8]) -> Attempt
         numbers,
         is_formed: true,
         is_strange: false,
+        has_step: false,
         is_half_framed: false,
         is_swapped: false,
         solution: solutions.group(),

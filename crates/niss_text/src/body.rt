@@ -185,7 +185,7 @@ pub fn is_half_framed(moves: &[u8]) -> bool {
 
 /// Whether turns stand in a line before or after all of a scramble.
 pub fn has_more_than_scramble(body: &[u8]) -> bool {
-    match behind_frame(trimmed(body)) {
+    match behind_frame(behind(body, Class::NoLetters)) {
         Some(rest) => (has_frame(rest) && !ends_with_frame(rest)) || has_two_frames(rest),
         None => is_whole_scramble(body),
     }

@@ -1,27 +1,26 @@
 //! What makes one doubt that a line is read as it was meant.
 ghost use Rattle.std.specs.Prelude.{◌≡◌, ◌≤◌, ◌<◌, ◌+◌, ◌-◌, ◌⊎◌, ℕ, true, false, length, slice_range, IfSome};
-ghost use Rattle.niss_text.specs.Doubts.{IsDoubted, IsAsWritten, IsCalledScramble, IsUncommentedStep, HasNone, number_of, sees};
+ghost use Rattle.niss_text.specs.Doubts.{IsDoubted, IsAsWritten, IsCalledScramble, IsUncommentedStep, MayBeScramble, HasNone, number_of, sees};
 ghost use Rattle.niss_text.specs.Doubts.{is_letter as is_plain_letter};
 ghost use Rattle.niss_text.specs.Signs.{is_letter};
 ghost use Rattle.niss_text.specs.Said.{DeniesNothing, HasWord, HasNoSlashes, IsDenied, IsOnInverse, IsPlainlyOnInverse, IsSided, Names};
 ghost use Rattle.niss_text.specs.Said.{are_spelled, words_of, label_in, moves_in, comment_in};
 ghost use Rattle.niss_text.specs.Lines.{IsLine, IsPlacedAs};
 ghost use Rattle.niss_text.specs.declared.doubts.Doubt.TheVariants.{Nothing, Letters, SmallLetters};
-ghost use Rattle.niss_text.specs.declared.sights.Sight.TheVariants.{Small, Capital, Joined, Repeated, Marked, Comma, Gap};
+ghost use Rattle.niss_text.specs.declared.sights.Sight.TheVariants.{Small, Capital, Joined, Repeated, Marked, Comma, Gap, Joint, Pair};
 
-use crate::among_moves::{comma_at, letters_at, small_alone};
-use crate::body::{are_long, has_more_than_scramble};
+use crate::among_moves::{comma_at, letters_at, may_be_misread, small_alone};
 use crate::forms::has_bracket;
 use crate::line::Line;
 use crate::marks::{
-    begin_with_letter_of_words, column_at, defined_mark, has_moves_aside, has_slice, is_mark,
-    is_no_count, letter_of_words, times_at_end, times_said,
+    begin_with_letter_of_words, column_at, defined_mark, has_moves_aside, is_mark, is_no_count,
+    letter_of_words, times_at_end, times_said,
 };
 use crate::said::{doubt_said, doubt_said_beside, names};
+use crate::scramble_lines::{may_be_scramble, may_have_step};
 use crate::sights::{Sight, first_seen};
-use crate::step_order::calls_scramble;
 use crate::text_line::{LineKind, TextLine, flag};
-use crate::words::{Wanted, says};
+use crate::words::Wanted;
 
 /// A reason for a doubt.
 #[derive(Clone, Copy, PartialEq, Eq)]
@@ -43,7 +42,8 @@ pub enum Doubt {
     Repetition,
     /// Moves are said to belong into others, or a mark stands where they do.
     Insertion,
-    /// A line after the scramble may be of it, or another one. This counts also if the attempt is solved.
+    /// A line after the scramble may be of it, or another one, or the first step may stand on a line of it. This counts also
+    /// if the attempt is solved.
     StepOrScramble,
     /// Moves may be written by signs that aren't read so: by a comma, wide letters or a link.
     Signs,
@@ -56,6 +56,8 @@ pub struct Sheet {
     pub has_solution: bool,
     /// Its scramble may be none.
     pub is_strange: bool,
+    /// Its scramble says that it is a step, so that the first one may stand on its line.
+    pub has_step: bool,
     /// A sign may have been lost of the R' U' F at one end of its scramble.
     pub is_half_framed: bool,
     /// The line may be of a scramble, though it stands after one.
@@ -120,6 +122,8 @@ fn doubt_of_step(text: &[u8], told: &TextLine, slashes: usize, sheet: Sheet) -> 
     ensures capital { result.0 ≡ Nothing → HasNone text.now Capital told.now.moves told.now.comment →
         HasNone text.now Small told.now.moves told.now.comment }
     ensures unmarked { result.0 ≡ Nothing → HasNone text.now Marked (told.now.moves + 1) told.now.comment }
+    ensures unjoined { result.0 ≡ Nothing → HasNone text.now Joint (told.now.moves + 1) told.now.comment }
+    ensures unpaired { result.0 ≡ Nothing → HasNone text.now Pair told.now.comment told.now.end }
     ensures ordered { result.0 ≡ Nothing → sheet.is_out_of_order ≡ false }
 {
     if has_moves_aside(&text[slashes..told.end]) {
@@ -146,9 +150,36 @@ fn doubt_of_step(text: &[u8], told: &TextLine, slashes: usize, sheet: Sheet) -> 
     if let Some(at) = letter_beside_words(text, told, slashes) {
         return (Doubt::Comment, at);
     }
+    doubt_seen(text, told)
+}
+
+/// What makes one doubt a step by what is seen among its moves, and after them, and where.
+fn doubt_seen(text: &[u8], told: &TextLine) -> (Doubt, usize)
+    requires line { IsLine told.now.begin told.now }
+    requires fits { told.now.end ≤ length text.now }
+    ensures place { (told.now.begin ≤ result.1) × (result.1 ≤ told.now.end) }
+    ensures others { number_of result.0 ≡ 4 → ⊥ }
+    ensures one { (number_of result.0 ≡ 1 → ⊥) × (number_of result.0 ≡ 11 → ⊥) }
+    ensures nowhere { result.0 ≡ Nothing → result.1 ≡ told.now.end }
+    ensures small { result.0 ≡ SmallLetters → sees text.now Small result.1 ≡ true }
+    ensures no_capital { result.0 ≡ SmallLetters → HasNone text.now Capital told.now.moves told.now.comment }
+    ensures capital { result.0 ≡ Nothing → HasNone text.now Capital told.now.moves told.now.comment →
+        HasNone text.now Small told.now.moves told.now.comment }
+    ensures unmarked { result.0 ≡ Nothing → HasNone text.now Marked (told.now.moves + 1) told.now.comment }
+    ensures unjoined { result.0 ≡ Nothing → HasNone text.now Joint (told.now.moves + 1) told.now.comment }
+    ensures unpaired { result.0 ≡ Nothing → HasNone text.now Pair told.now.comment told.now.end }
+{
     let marked = first_seen(text, told.moves + 1, told.comment, Sight::Marked);
     if marked < told.comment {
         return (Doubt::Insertion, marked);
+    }
+    let joint = first_seen(text, told.moves + 1, told.comment, Sight::Joint);
+    if joint < told.comment {
+        return (Doubt::Comment, joint);
+    }
+    let pair = first_seen(text, told.comment, told.end, Sight::Pair);
+    if pair < told.end {
+        return (Doubt::Comment, pair);
     }
     let small = small_alone(text, told.moves, told.comment);
     if small < told.comment {
@@ -172,7 +203,7 @@ fn doubt_of_scramble(text: &[u8], told: &TextLine, slashes: usize, sheet: Sheet)
     if small < told.comment {
         return (Doubt::SmallLetters, small);
     }
-    if sheet.is_strange || has_more_than_scramble(&text[told.moves..told.comment]) {
+    if sheet.is_strange {
         return (Doubt::AnotherScramble, told.moves);
     }
     if sheet.is_half_framed {
@@ -182,50 +213,6 @@ fn doubt_of_scramble(text: &[u8], told: &TextLine, slashes: usize, sheet: Sheet)
         return (Doubt::Comment, slashes);
     }
     (Doubt::Nothing, told.end)
-}
-
-/// Whether a line is a step, and nothing stands after its moves.
-fn is_uncommented_step(told: &TextLine) -> bool
-    ensures step { result ≡ true → IsUncommentedStep told.now }
-    ensures all { IsUncommentedStep told.now → result ≡ true }
-{
-    told.is_a(LineKind::Step) && told.comment == told.end
-}
-
-/// Whether a line that isn't of the solution is as long as a scramble, and words for one are in its label, but not for
-/// that of the inverse.
-fn is_like_scramble(text: &[u8], told: &TextLine) -> bool
-    requires line { IsLine told.now.begin told.now }
-    requires fits { told.now.end ≤ length text.now }
-{
-    let label = &text[told.label_begin..told.label_end];
-    told.is_solution == 0
-        && are_long(told.moves, told.comment)
-        && says(label, Wanted::Scramble)
-        && !says(label, Wanted::Inverse)
-}
-
-/// Whether the head of a line or its label calls it a scramble.
-#[tactic(auto, using(crate::proofs::DoubtLemmas::small_word, crate::proofs::DoubtLemmas::small_head))]
-fn is_called_scramble(text: &[u8], told: &TextLine) -> bool
-    requires line { IsLine told.now.begin told.now }
-    requires fits { told.now.end ≤ length text.now }
-    ensures { IsCalledScramble text.now told.now → result ≡ true }
-{
-    calls_scramble(&text[told.begin..told.head_end])
-        || calls_scramble(&text[told.label_begin..told.label_end])
-        || is_like_scramble(text, told)
-}
-
-/// Whether some moves are as long as a scramble, and may have been printed otherwise: none is turned back, so that their
-/// apostrophes may have been lost, or one is of a slice.
-fn may_be_misread(text: &[u8], told: &TextLine) -> bool
-    requires line { IsLine told.now.begin told.now }
-    requires fits { told.now.end ≤ length text.now }
-{
-    are_long(told.moves, told.comment)
-        && (first_seen(text, told.moves, told.comment, Sight::Prime) == told.comment
-            || has_slice(&text[told.moves..told.comment]))
 }
 
 /// What makes one doubt a line of moves, and where.
@@ -250,6 +237,8 @@ fn doubt_of_moves(text: &[u8], told: &TextLine, line: &Line, sheet: Sheet) -> (D
         HasNone text.now Comma told.now.moves (told.now.comment - 2) ⊎ HasNone text.now Gap told.now.moves told.now.comment }
     ensures step { number_of result.0 ≡ 11 → ⊥ }
     ensures unmarked { result.0 ≡ Nothing → told.now.kind ≡ 3 → HasNone text.now Marked (told.now.moves + 1) told.now.comment }
+    ensures unjoined { result.0 ≡ Nothing → told.now.kind ≡ 3 → HasNone text.now Joint (told.now.moves + 1) told.now.comment }
+    ensures unpaired { result.0 ≡ Nothing → told.now.kind ≡ 3 → HasNone text.now Pair told.now.comment told.now.end }
     ensures ordered { result.0 ≡ Nothing → told.now.kind ≡ 3 → sheet.is_out_of_order ≡ false }
     ensures no_small { result.0 ≡ Nothing → told.now.kind ≡ 2 → HasNone text.now Small told.now.moves told.now.comment }
 {
@@ -273,7 +262,7 @@ fn doubt_of_moves(text: &[u8], told: &TextLine, line: &Line, sheet: Sheet) -> (D
     if let Some(at) = column_at(&text[told.moves..told.comment]) {
         return (Doubt::Signs, told.moves + at);
     }
-    if may_be_misread(text, told) {
+    if may_be_misread(text, told.moves, told.comment) {
         return (Doubt::Signs, told.moves);
     }
     if told.is_a(LineKind::Scramble) {
@@ -309,19 +298,23 @@ fn doubt_of(text: &[u8], told: &TextLine, line: &Line, sheet: Sheet) -> (Doubt, 
     ensures once_solved { result.0 ≡ Nothing → told.now.kind ≡ 3 → told.now.is_solution ≡ 1 → HasNone text.now Repeated told.now.moves told.now.comment }
     ensures commas { result.0 ≡ Nothing → (told.now.kind ≡ 2) ⊎ ((told.now.kind ≡ 3) × (told.now.is_solution ≡ 1)) →
         HasNone text.now Comma told.now.moves (told.now.comment - 2) ⊎ HasNone text.now Gap told.now.moves told.now.comment }
-    ensures uncommented { number_of result.0 ≡ 11 → IsUncommentedStep told.now }
-    ensures called { IsUncommentedStep told.now → IsCalledScramble text.now told.now → number_of result.0 ≡ 11 }
+    ensures of_scramble { number_of result.0 ≡ 11 → (told.now.kind ≡ 2) ⊎ MayBeScramble told.now }
+    ensures called { told.now.kind ≡ 3 → IsCalledScramble text.now told.now → number_of result.0 ≡ 11 }
     ensures swapped { IsUncommentedStep told.now → sheet.is_swapped ≡ true → number_of result.0 ≡ 11 }
+    ensures stepped { told.now.kind ≡ 2 → sheet.has_step ≡ true → number_of result.0 ≡ 11 }
     ensures unmarked { result.0 ≡ Nothing → told.now.kind ≡ 3 → told.now.is_solution ≡ 1 → HasNone text.now Marked (told.now.moves + 1) told.now.comment }
+    ensures unjoined { result.0 ≡ Nothing → told.now.kind ≡ 3 → told.now.is_solution ≡ 1 → HasNone text.now Joint (told.now.moves + 1) told.now.comment }
+    ensures unpaired { result.0 ≡ Nothing → told.now.kind ≡ 3 → told.now.is_solution ≡ 1 → HasNone text.now Pair told.now.comment told.now.end }
     ensures ordered { result.0 ≡ Nothing → told.now.kind ≡ 3 → told.now.is_solution ≡ 1 → sheet.is_out_of_order ≡ false }
     ensures inserted { result.0 ≡ Nothing → told.now.kind ≡ 3 → sheet.is_put_into_others ≡ false }
 {
     if told.is_a(LineKind::Scramble) {
+        if may_have_step(text, told, sheet) {
+            return (Doubt::StepOrScramble, told.moves);
+        }
         return doubt_of_moves(text, told, line, sheet);
     }
-    if is_uncommented_step(told)
-        && (sheet.is_stray || sheet.is_swapped || is_called_scramble(text, told))
-    {
+    if may_be_scramble(text, told, sheet) {
         return (Doubt::StepOrScramble, told.moves);
     }
     let is_after = told.is_a(LineKind::Step) || told.is_a(LineKind::Note);
@@ -387,6 +380,7 @@ pub fn judged(text: &[u8], told: TextLine, line: &Line, sheet: Sheet) -> TextLin
     ensures placed { IsPlacedAs told result }
     ensures sided { HasNoSlashes (moves_in text.now result) → IsSided text.now result }
     ensures swapped { IsUncommentedStep told → sheet.is_swapped ≡ true → result.doubt ≡ 11 }
+    ensures stepped { told.kind ≡ 2 → sheet.has_step ≡ true → result.doubt ≡ 11 }
     ensures ordered { result.doubt ≡ 0 → result.kind ≡ 3 → result.is_solution ≡ 1 → sheet.is_out_of_order ≡ false }
     ensures inserted { result.doubt ≡ 0 → result.kind ≡ 3 → sheet.is_put_into_others ≡ false }
 {

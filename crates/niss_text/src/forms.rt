@@ -5,7 +5,7 @@ ghost use Rattle.niss_text.specs.Pieces.{EndsWithColon};
 ghost use Rattle.niss_text.specs.Doubts.{is_letter as is_plain_letter};
 ghost use Rattle.niss_text.specs.Said.{HasNoBracket, HasNoSlashes};
 ghost use Rattle.niss_text.specs.Kept.{AreTurns, IsTurnUpTo, HasNoLetters, HasOnlyWords, IsCount, IsTitleEnd, words_of_count};
-ghost use Rattle.niss_text.specs.Titles.{HasTurn, IsTitle, begins_with_step, is_bullet, is_joined, turn_follows};
+ghost use Rattle.niss_text.specs.Titles.{HasNoPair, HasTurn, IsTitle, begins_with_pair, begins_with_step, is_joined, turn_follows};
 
 use crate::sights::{byte_at, is_capital, is_letter as is_plain_letter};
 use crate::sign::{
@@ -180,22 +180,6 @@ pub fn margin(line: &[u8]) -> usize
     line.len() - rest.len()
 }
 
-/// Whether a label is the sign of a list: `-`, `*` or U+2022.
-#[tactic(auto, unfolding(crate::specs::Titles::is_bullet))]
-pub fn is_bullet(label: &[u8]) -> bool
-    ensures { result ≡ is_bullet label.now }
-{
-    let first = byte_at(label, 0);
-    let is_dot = first == 0xe2 && (byte_at(label, 1) == 0x80 && byte_at(label, 2) == 0xa2);
-    (label.len() == 1 && (first == b'-' || first == b'*')) || (label.len() == 3 && is_dot)
-}
-
-/// Whether a line goes on with a blank, or ends.
-pub fn is_parted(line: &[u8]) -> bool {
-    let kind = first_kind(line);
-    is_skipped(kind) || kind == Kind::LineEnd
-}
-
 /// Whether a word may be a move, so that a colon after it is at fault.
 fn is_like_move(word: &[u8]) -> bool
     ensures { AreTurns word.now → IsTurnUpTo word.now (length word.now) → result ≡ true }
@@ -346,6 +330,29 @@ fn has_turn(text: &[u8]) -> bool
     false
 }
 
+/// Whether a text begins with a half turn of a face and another turn, with a blank between.
+#[tactic(auto, unfolding(crate::specs::Titles::begins_with_pair))]
+fn begins_with_pair(text: &[u8]) -> bool
+    ensures { result ≡ begins_with_pair text.now }
+{
+    (is_capital(byte_at(text, 0)) && (byte_at(text, 1) == b'2' && byte_at(text, 2) == b' '))
+        && (is_capital(byte_at(text, 3)) && !is_plain_letter(byte_at(text, 4)))
+}
+
+/// Whether such turns stand in words.
+fn has_pair(words: &[u8]) -> bool
+    ensures { result ≡ false → HasNoPair words.now }
+{
+    let mut rest = words;
+    while !rest.is_empty() {
+        if begins_with_pair(rest) {
+            return true;
+        }
+        rest = from_place(rest, 1);
+    }
+    false
+}
+
 /// Whether a byte after a colon says that this is of a time or a face, as in `0:45` and `:)`.
 fn is_joined(byte: u8) -> bool
     ensures { result ≡ is_joined byte }
@@ -358,7 +365,7 @@ fn is_step(words: &[u8], after: &[u8]) -> bool
     ensures { result ≡ false → IsTitle words.now after.now }
 {
     if has_turn(after) {
-        return false;
+        return has_pair(words);
     }
     begins_with_step(words) || (is_joined(byte_at(after, 0)) && has_step(words))
 }

@@ -1,6 +1,6 @@
 //! The groups of lines after a scramble: those directly under it, and the blocks after blank lines.
 ghost use Rattle.std.specs.Prelude.{◌≡◌, ◌≤◌, ◌<◌, true, false};
-ghost use Rattle.niss_text.specs.Groups.{IsFresh, IsEndedBy, Goes};
+ghost use Rattle.niss_text.specs.Groups.{IsFresh, IsEndedBy, Goes, is_that};
 
 use crate::body::{are_long, is_whole_move_before};
 use crate::line::{Line, Numbers, cut_line};
@@ -62,6 +62,16 @@ impl Group {
         group.has_moves = group.has_moves || line.is_moves;
         group.has_label = group.has_label || line.is_solution;
         group
+    }
+}
+
+/// Whether a group is the solution, if one is.
+pub fn is_that(solution: Option<usize>, group: usize) -> bool
+    ensures { result ≡ is_that solution group }
+{
+    match solution {
+        Some(number) => number == group,
+        None => false,
     }
 }
 

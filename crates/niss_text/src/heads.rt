@@ -6,9 +6,11 @@ ghost use Rattle.niss_text.specs.Doubts.{is_capital};
 ghost use Rattle.niss_text.specs.Said.{is_a_head};
 ghost use Rattle.niss_text.specs.declared.line.Head.TheVariants.{None as NoHead};
 
-use crate::forms::{blanks, is_parted, mark_length, sign_length};
+use crate::forms::{blanks, mark_length, sign_length};
 use crate::line::{Head, Numbers};
-use crate::sign::{Kind, digits_length, first_kind, from_place, is_digit_byte, trimmed};
+use crate::sign::{
+    Kind, digits_length, first_kind, from_place, is_digit_byte, is_skipped, trimmed,
+};
 use crate::words::word_length;
 
 /// How many bytes the word has that stands before each of several scrambles, if a text begins with one; else 0.
@@ -76,6 +78,12 @@ pub fn number_length(line: &[u8]) -> usize
     } else {
         0
     }
+}
+
+/// Whether a line goes on with a blank, or ends.
+pub fn is_parted(line: &[u8]) -> bool {
+    let kind = first_kind(line);
+    is_skipped(kind) || kind == Kind::LineEnd
 }
 
 /// How many bytes an opened bracket has in front of a line, or the letter of an extra in a list that has some; else 0.

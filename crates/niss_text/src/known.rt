@@ -8,8 +8,9 @@ use crate::attempts::{Progress, put_attempts, put_solution};
 use crate::parts::{Part, first_part, has_head};
 use crate::status::Status;
 use crate::text_line::TextLine;
+use crate::worded_heads::put_heads;
 
-/// A part of such a text: what stands under a head, or in a block if the text has no heads.
+/// A part of such a text: what stands under a head, which words may follow, or in a block if the text has no heads.
 #[repr(C)]
 #[derive(Clone, Copy, Debug, PartialEq, Eq)]
 pub struct KnownPart {
@@ -261,6 +262,7 @@ pub fn known_lines(
             parts: 0,
         };
     }
+    put_heads(text, &mut lines[..all.lines], counts);
     let is_by_blocks = counts.len() > 1 && !has_head(&lines[..all.lines]);
     let seen = read_parts(text, all.lines, is_by_blocks, lines, parts);
     if seen.read.lines > lines.len() || seen.parts > parts.len() {

@@ -21,6 +21,7 @@ mod pen;
 mod piece;
 mod plain;
 mod said;
+mod scramble_lines;
 mod short_word;
 mod sights;
 mod sign;
@@ -33,6 +34,7 @@ mod stretches;
 mod text_line;
 mod topics;
 mod word;
+mod worded_heads;
 mod words;
 
 pub use attempts::{TextAnswer, text_lines};

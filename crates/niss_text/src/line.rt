@@ -6,9 +6,10 @@ ghost use Rattle.niss_text.specs.Said.{HasNoSlashes, IsLabelled, SaysSolution, i
 ghost use Rattle.niss_text.specs.Lines.{IsUnbroken, IsEnd, end_of, end_size};
 
 use crate::body::{are_long, has_frame, is_whole_scramble};
-use crate::forms::{blanks, is_bullet, line_length, margin};
+use crate::forms::{blanks, line_length, margin};
 use crate::heads::head_of;
 use crate::line_parts::parts_of;
+use crate::marks::is_bullet;
 use crate::sign::{Class, behind, from_place, is_digit_byte};
 use crate::word::are_plain_moves;
 use crate::words::{Wanted, says, says_solution};
@@ -165,7 +166,7 @@ fn seen_beside(label: &[u8], has_words: bool) -> Beside {
 }
 
 /// Whether a line has nothing but blanks from a place on.
-fn is_empty_from(line: &[u8], from: usize) -> bool
+pub fn is_empty_from(line: &[u8], from: usize) -> bool
     requires { from ≤ length line.now }
     ensures { result ≡ true → HasNoMoves (drop from line.now) }
 {

@@ -1,9 +1,10 @@
 //! Signs by which solvers have moves made several times, or put into others: of a number of times, and marks; and letters
 //! that may be of the words after moves.
-ghost use Rattle.std.specs.Prelude.{◌≤◌, ◌<◌, length, IfSome};
+ghost use Rattle.std.specs.Prelude.{◌≡◌, ◌≤◌, ◌<◌, length, IfSome};
+ghost use Rattle.niss_text.specs.Titles.{is_bullet};
 
 use crate::body::has_turn;
-use crate::sights::is_letter;
+use crate::sights::{byte_at, is_letter};
 use crate::sign::{Class, is_digit_byte, length_of, trimmed};
 use crate::word::has_three_moves;
 use crate::words::{has_axis, is_end_name, is_step_name, names_place};
@@ -255,4 +256,14 @@ pub fn is_mark(tail: &[u8]) -> bool {
         }
     }
     marks == 1 || marks == 2
+}
+
+/// Whether a label is the sign of a list: `-`, `*` or U+2022.
+#[tactic(auto, unfolding(crate::specs::Titles::is_bullet))]
+pub fn is_bullet(label: &[u8]) -> bool
+    ensures { result ≡ is_bullet label.now }
+{
+    let first = byte_at(label, 0);
+    let is_dot = first == 0xe2 && (byte_at(label, 1) == 0x80 && byte_at(label, 2) == 0xa2);
+    (label.len() == 1 && (first == b'-' || first == b'*')) || (label.len() == 3 && is_dot)
 }

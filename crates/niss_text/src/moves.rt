@@ -1,9 +1,9 @@
 //! The moves of some lines of a text as one line.
-ghost use Rattle.std.specs.Prelude.{◌≡◌, ◌<◌, ◌≤◌, ◌+◌, ◌*◌, ◌-◌, ◌++◌, true, Some, MatchOption, length, take, drop, set, slice_range};
+ghost use Rattle.std.specs.Prelude.{◌≡◌, ◌<◌, ◌≤◌, ◌+◌, ◌*◌, ◌-◌, ◌++◌, true, Some, length, take, drop, set, slice_range};
 ghost use Rattle.std.specs.List.{list_any};
 ghost use Rattle.niss_text.specs.Signs.{is_digit};
 ghost use Rattle.niss_text.specs.LeftOut.{left_none};
-ghost use Rattle.niss_text.specs.Moves.{is_wanted, is_inverse, left_around, number_of_moves, gap_of, gap_after, place_after, opening, opening_place, closing, closing_place, WritesMoves};
+ghost use Rattle.niss_text.specs.Moves.{is_wanted, is_inverse, left_around, moves_of_number, gap_of, gap_after, place_after, opening, opening_place, closing, closing_place, WritesMoves};
 ghost use Rattle.niss_text.specs.Written.{AddsLine};
 
 use crate::left_out::LeftOut;
@@ -11,7 +11,6 @@ use crate::pen::{Beginning, Pen};
 use crate::piece::Place;
 use crate::plain::PlainAnswer;
 use crate::sign::is_digit_byte;
-use crate::status::Status;
 use crate::text_line::{LineKind, TextLine};
 
 /// Which lines' moves are wanted.
@@ -26,9 +25,11 @@ pub enum MovesOf {
 }
 
 impl MovesOf {
-    /// Those of a number.
-    fn of_number(number: u8) -> Option<MovesOf>
-        ensures { MatchOption result (3 < number) (λ of. number_of_moves of ≡ number) }
+    /// Those of a number: 0 for those of a scramble, 1 for all steps, 2 for those of a solution, 3 for each step on a line of
+    /// its own.
+    #[tactic(auto, using(crate::proofs::MovesLemmas::no_moves))]
+    pub fn of_number(number: u8) -> Option<MovesOf>
+        ensures { result ≡ moves_of_number number }
     {
         match number {
             0 => Some(MovesOf::Scramble),
@@ -239,28 +240,20 @@ impl Joined {
 }
 
 /// Writes the moves of some lines of a text as one line, joined by blanks, and in brackets if they are said to be on the
-/// inverse: of the lines those of the scramble, all steps, or those of the solution, by the number of `MovesOf`; or each
-/// step as a line of its own. Each byte that is written has its place in the text. Three bytes for each from `moves` to
-/// `comment` of these lines, and three for each line, are room enough; else the answer may say `NoRoom`. It says `Usage`,
-/// with nothing written, if the number is another. Of each of these lines it tells where its moves stand, as long as there
-/// is room in `parts`. What follows in the rooms stays as it is.
+/// inverse; or each step as a line of its own. Each byte that is written has its place in the text. Three bytes for each
+/// from `moves` to `comment` of these lines, and three for each line, are room enough; else the answer may say `NoRoom`. Of
+/// each of these lines it tells where its moves stand, as long as there is room in `parts`. What follows in the rooms stays
+/// as it is.
 pub fn text_moves(
     text: &[u8],
     lines: &[TextLine],
-    which: u8,
+    of: MovesOf,
     out: &mut [u8],
     places: &mut [u64],
     parts: &mut [MovesPart],
 ) -> PlainAnswer
-    ensures { WritesMoves text.now lines.now which out.old out.new places.old places.new parts.old parts.new result }
+    ensures { WritesMoves text.now lines.now of out.old out.new places.old places.new parts.old parts.new result }
 {
-    let Some(of) = MovesOf::of_number(which) else {
-        return PlainAnswer {
-            status: Status::Usage.number(),
-            left_out: 0,
-            length: 0,
-        };
-    };
     let mut joined = Joined {
         gap: of.gap(),
         pen: Pen::new(),

@@ -53,7 +53,7 @@ pub fn number_in(head: &[u8]) -> Option<usize>
 }
 
 /// The number of the head of a line, if it has one with a number.
-fn number_of(text: &[u8], line: &TextLine) -> Option<usize>
+pub fn number_of(text: &[u8], line: &TextLine) -> Option<usize>
     ensures { result ≡ number_of_line text.now line.now }
 {
     if line.is_headed == 0 {
@@ -63,7 +63,7 @@ fn number_of(text: &[u8], line: &TextLine) -> Option<usize>
 }
 
 /// Whether a line has moves.
-fn has_moves(line: &TextLine) -> bool
+pub fn has_moves(line: &TextLine) -> bool
     ensures { result ≡ has_moves line.now }
 {
     line.is_a(LineKind::Scramble) || line.is_a(LineKind::Step)

@@ -2,6 +2,7 @@
 ghost use Rattle.std.specs.Prelude.{◌≡◌, ◌≤◌, ◌*◌, ◌⊎◌, true, length, take, drop};
 ghost use Rattle.niss_text.specs.Plain.{IsPlain};
 ghost use Rattle.niss_text.specs.LeftOut.{bits_of};
+ghost use Rattle.niss_text.specs.Moves.{refusal};
 
 use crate::left_out::LeftOut;
 use crate::pen::{Beginning, Pen};
@@ -38,6 +39,17 @@ impl PlainAnswer {
             status: status.number(),
             left_out: left_out.bits(),
             length: pen.length,
+        }
+    }
+
+    /// What is returned if a caller's number is that of no moves: `Usage`, and nothing is written.
+    pub fn refusal() -> PlainAnswer
+        ensures { result ≡ refusal }
+    {
+        PlainAnswer {
+            status: Status::Usage.number(),
+            left_out: 0,
+            length: 0,
         }
     }
 }

@@ -1,7 +1,7 @@
 //! What is looked for at each place of a line, and where it is seen first.
 ghost use Rattle.std.specs.Prelude.{◌≡◌, ◌≤◌, ◌<◌, ℕ, true, false, length, slice_index};
 ghost use Rattle.niss_text.specs.Doubts.{is_small, is_capital, is_prime, is_letter, ends_move, closes, is_times, is_cross, last_of_times};
-ghost use Rattle.niss_text.specs.Doubts.{is_after_bracket, is_before_digit, is_repeated, is_marked, is_comma, ends_capital, is_after_move, is_before_letter, is_between, is_gap, sees, HasNone};
+ghost use Rattle.niss_text.specs.Doubts.{is_after_bracket, is_before_digit, is_repeated, is_marked, is_comma, ends_capital, is_after_move, is_before_letter, is_between, is_gap, is_joint, turn_size, are_opposite, is_axis, is_pair, sees, HasNone};
 
 use crate::sign::is_digit_byte;
 
@@ -26,6 +26,10 @@ pub enum Sight {
     Comma,
     /// A blank beside which no comma stands.
     Gap,
+    /// A `y` between blanks, which joins words in Spanish.
+    Joint,
+    /// The first of two turns of faces with a blank between, which don't name an axis.
+    Pair,
 }
 
 /// Whether a byte is a letter of ASCII, a digit or an apostrophe, of which a sign of moves may end.
@@ -189,6 +193,66 @@ fn is_gap(text: &[u8], at: usize) -> bool
     text[at] == b' ' && !(is_comma(text[at.saturating_sub(1)]) || is_comma(byte_at(text, at + 1)))
 }
 
+/// Whether a `y` stands between blanks at a place of a text.
+#[tactic(auto, unfolding(crate::specs::Doubts::is_joint))]
+fn is_joint(text: &[u8], at: usize) -> bool
+    requires { at < length text.now }
+    ensures { result ≡ is_joint text.now at }
+{
+    text[at] == b'y' && (text[at.saturating_sub(1)] == b' ' && byte_at(text, at + 1) == b' ')
+}
+
+/// How many bytes a turn has whose letter stands at a place.
+fn turn_size(text: &[u8], at: usize) -> usize
+    requires { at < 18446744073709551614 }
+    ensures is { result ≡ turn_size text.now at }
+    ensures few { result ≤ 4 }
+{
+    match byte_at(text, at + 1) {
+        b'2' | b'\'' => 2,
+        0xe2 => 4,
+        _ => 1,
+    }
+}
+
+/// Whether two letters are those of opposite faces.
+fn are_opposite(one: u8, other: u8) -> bool
+    ensures { result ≡ are_opposite one other }
+{
+    match one {
+        b'U' => other == b'D',
+        b'D' => other == b'U',
+        b'R' => other == b'L',
+        b'L' => other == b'R',
+        b'F' => other == b'B',
+        b'B' => other == b'F',
+        _ => false,
+    }
+}
+
+/// Whether the letters of two opposite faces, of which one stands at a place of a text, name an axis: neither has a sign.
+fn is_axis(text: &[u8], at: usize) -> bool
+    requires { at < length text.now }
+    ensures { result ≡ is_axis text.now at }
+{
+    are_opposite(text[at], byte_at(text, at + 2))
+        && (turn_size(text, at) == 1 && turn_size(text, at + 2) == 1)
+}
+
+/// Whether two turns of faces stand at a place of a text, with a blank between, and no letter beside them, which name no
+/// axis.
+#[tactic(auto, unfolding(crate::specs::Doubts::is_pair))]
+fn is_pair(text: &[u8], at: usize) -> bool
+    requires { at < length text.now }
+    ensures { result ≡ is_pair text.now at }
+{
+    let next = at + turn_size(text, at);
+    (is_capital(text[at]) && !is_letter(text[at.saturating_sub(1)]))
+        && (byte_at(text, next) == b' '
+            && ((is_capital(byte_at(text, next + 1)) && !is_letter(byte_at(text, next + 2)))
+                && !is_axis(text, at)))
+}
+
 /// Whether something is seen at a place of a text.
 #[tactic(auto, unfolding(crate::specs::Doubts::sees))]
 fn sees(text: &[u8], sight: Sight, at: usize) -> bool
@@ -207,6 +271,8 @@ fn sees(text: &[u8], sight: Sight, at: usize) -> bool
         Sight::Marked => is_marked(text, at),
         Sight::Comma => is_between(text, at),
         Sight::Gap => is_gap(text, at),
+        Sight::Joint => is_joint(text, at),
+        Sight::Pair => is_pair(text, at),
     }
 }
 

@@ -321,6 +321,7 @@ fn end_with_link(words: &[u8]) -> bool {
 pub fn calls_scramble(words: &[u8]) -> bool
     ensures word { map small words.now ≡ codes "scramble" → result ≡ true }
     ensures colon { map small words.now ≡ codes "scramble:" → result ≡ true }
+    ensures some { result ≡ true → 0 < length words.now }
 {
     if is_word(words, b"scramble") || is_word(words, b"scramble:") {
         return true;

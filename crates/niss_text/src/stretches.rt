@@ -2,7 +2,7 @@
 //! scrambles of one apart.
 ghost use Rattle.std.specs.Prelude.{◌≤◌, ◌<◌, length};
 
-use crate::forms::is_parted;
+use crate::heads::is_parted;
 use crate::line::{
     Head, Line, Numbers, cut_line, cut_text, first_line, head_in_front, whole_length,
 };

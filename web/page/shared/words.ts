@@ -125,7 +125,7 @@ const WORDS_OF_DOUBTS: Record<string, (word: string, named: Turns | null) => str
   insertion: (word) => (/^[UDRLFB][23'’]*$/i.test(word)
     ? `beside “${word}” a move, or a turn of the cube, may be missing`
     : `“${word}” may say that moves belong into others, and they are read in the text's order`),
-  "step or scramble": () => "this line may be of a scramble, and is read as a step",
+  "step or scramble": () => "moves of this line may be of a scramble, or of a step",
   signs: (word) => `“${word}” may stand for other moves than are read`,
   "another attempt": () => "another attempt may begin here",
   "a part": () => "as a whole this doesn't solve the scramble, but a part of it does",

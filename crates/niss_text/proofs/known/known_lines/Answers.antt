@@ -8,13 +8,14 @@ use Rattle.niss_text.proofs.HeadsOfLines.{names_stay}
 use Rattle.niss_text.proofs.PassedLemmas.{remain_all}
 use Rattle.niss_text.proofs.VanishLemmas.{tells_plain}
 use Rattle.niss_text.proofs.NameLemmas.{are_of}
+use Rattle.niss_text.proofs.WordedLemmas.{all_headed}
 use Rattle.niss_text.proofs.known.known_lines.Goals.{then-not-seen, else-not-seen, then-seen-lines-via-then-seen-lines, then-seen-lines-via-else-seen-lines+then-seen-parts}
 use Rattle.niss_text.proofs.known.known_lines.Goals as goal
 
 pub returns-clause-are_of : goal.returns-clause-are_of
 returns-clause-are_of c = λ done.
     let text : List ℕ = c.args.text.now in
-    let count : ℕ = length c.args.counts.now in
+    let count : ℕ = length c.put_heads.new.counts in
     let seen = c.read_parts-seen in
     let n : ℕ = seen.result.parts in
     let room : n ≤ length seen.new.parts = c.if-seen-parts.false in
@@ -34,9 +35,10 @@ returns-clause-are_of c = λ done.
     let part : KnownPart = record { scramble = 0; begin = 0; name_begin = 0; name_end = 0; first_line = 0; solution_end = 0; end_line = 0 } in
     let whole : take n (new ++ rest) ≡ new =
     ap (λ m. take m (new ++ rest)) (sym long ∙ sym same_long) ∙ take-append_seam new rest in
-    subst (λ (ps : List KnownPart). AreOf text count ps) (sym whole)
+    subst (λ (m : ℕ). AreOf text m (take n (new ++ rest))) c.put_heads.auto.counts
+    (subst (λ (ps : List KnownPart). AreOf text count ps) (sym whole)
     (are_of text c.if-not-seen.is_in_order count part old new low same_long (seen.ensures.says room) c.assign.ensures.named order
-    (c.assign.ensures.own part))
+    (c.assign.ensures.own part)))
 
 pub returns-clause-names : goal.returns-clause-names
 returns-clause-names c = λ done.
@@ -56,8 +58,9 @@ returns-clause-names c = λ done.
     subst (λ (ps : List KnownPart). HaveNames text ps) (sym whole)
     (names_stay text old new part same_long c.assign.ensures.named
     (seen.ensures.names
+    (all_headed text all.new.lines c.put_heads.new.lines (drop all.result.lines all.new.lines) all.result.lines c.if-all-lines.false c.put_heads.auto.lines c.put_heads.ensures.covers
     (all_covered text c.args.lines.now all.new.lines c.nothing.result.lines c.nothing.result.at all.result.lines all.result.at c.nothing.ensures.1.0 c.nothing.ensures.0
-    (λ begun. all.ensures.covers begun c.if-all-lines.false) (omega (arith, all.ensures.further.0, all.ensures.further.1.1)))
+    (λ begun. all.ensures.covers begun c.if-all-lines.false) (omega (arith, all.ensures.further.0, all.ensures.further.1.1))))
     room))
 
 pub returns-clause-takes : goal.returns-clause-takes
@@ -65,8 +68,9 @@ returns-clause-takes c = λ done.
     let text : List ℕ = c.args.text.now in
     let all = c.put_attempts-all in
     c.read_parts-seen.ensures.takes
+    (all_headed text all.new.lines c.put_heads.new.lines (drop all.result.lines all.new.lines) all.result.lines c.if-all-lines.false c.put_heads.auto.lines c.put_heads.ensures.covers
     (all_covered text c.args.lines.now all.new.lines c.nothing.result.lines c.nothing.result.at all.result.lines all.result.at c.nothing.ensures.1.0 c.nothing.ensures.0
-    (λ begun. all.ensures.covers begun c.if-all-lines.false) (omega (arith, all.ensures.further.0, all.ensures.further.1.1)))
+    (λ begun. all.ensures.covers begun c.if-all-lines.false) (omega (arith, all.ensures.further.0, all.ensures.further.1.1))))
 
 pub returns-clause-parts : goal.returns-clause-parts
 returns-clause-parts c = λ done.
@@ -84,8 +88,9 @@ returns-clause-parts c = λ done.
     subst (λ (ps : List KnownPart). PartsTake text seen.new.lines 0 ps (length text)) (sym whole)
     (c.assign.ensures.told text seen.new.lines (length text)
     (seen.ensures.told
+    (all_headed text all.new.lines c.put_heads.new.lines (drop all.result.lines all.new.lines) all.result.lines c.if-all-lines.false c.put_heads.auto.lines c.put_heads.ensures.covers
     (all_covered text c.args.lines.now all.new.lines c.nothing.result.lines c.nothing.result.at all.result.lines all.result.at c.nothing.ensures.1.0 c.nothing.ensures.0
-    (λ begun. all.ensures.covers begun c.if-all-lines.false) (omega (arith, all.ensures.further.0, all.ensures.further.1.1)))
+    (λ begun. all.ensures.covers begun c.if-all-lines.false) (omega (arith, all.ensures.further.0, all.ensures.further.1.1))))
     room))
 
 pub returns-clause-plain : goal.returns-clause-plain
@@ -94,8 +99,9 @@ returns-clause-plain c = λ done.
     let all = c.put_attempts-all in
     tells_plain text (take c.read_parts-seen.result.read.lines c.read_parts-seen.new.lines)
     (c.read_parts-seen.ensures.takes
+    (all_headed text all.new.lines c.put_heads.new.lines (drop all.result.lines all.new.lines) all.result.lines c.if-all-lines.false c.put_heads.auto.lines c.put_heads.ensures.covers
     (all_covered text c.args.lines.now all.new.lines c.nothing.result.lines c.nothing.result.at all.result.lines all.result.at c.nothing.ensures.1.0 c.nothing.ensures.0
-    (λ begun. all.ensures.covers begun c.if-all-lines.false) (omega (arith, all.ensures.further.0, all.ensures.further.1.1))))
+    (λ begun. all.ensures.covers begun c.if-all-lines.false) (omega (arith, all.ensures.further.0, all.ensures.further.1.1)))))
 
 pub returns-then-all-lines-clause-enough : goal.returns-then-all-lines-clause-enough
 returns-then-all-lines-clause-enough c = λ count counts room parts_room.
@@ -110,8 +116,9 @@ returns-then-seen-lines-clause-enough c = λ count counts room parts_room.
     let seen = c.read_parts-seen in
     let same = all.ensures.all count (remain_all text count c.nothing.result.lines c.nothing.result.at (length text) c.nothing.ensures.1.0 c.nothing.ensures.0 counts) in
     let few : seen.result.read.lines ≤ all.result.lines = seen.ensures.few_lines
+    (all_headed text all.new.lines c.put_heads.new.lines (drop all.result.lines all.new.lines) all.result.lines c.if-all-lines.false c.put_heads.auto.lines c.put_heads.ensures.covers
     (all_covered text c.args.lines.now all.new.lines c.nothing.result.lines c.nothing.result.at all.result.lines all.result.at c.nothing.ensures.1.0 c.nothing.ensures.0
-    (λ begun. all.ensures.covers begun c.if-all-lines.false) (omega (arith, all.ensures.further.0, all.ensures.further.1.1))) in
+    (λ begun. all.ensures.covers begun c.if-all-lines.false) (omega (arith, all.ensures.further.0, all.ensures.further.1.1)))) in
     elim c.then-seen-lines.branch [
       | then-seen-lines-via-then-seen-lines w ↦ absurd (omega (arith, few, same.1, room, all.auto.lines, seen.auto.lines, w.if-seen-lines.true))
       | then-seen-lines-via-else-seen-lines+then-seen-parts w ↦ absurd (omega (arith, seen.ensures.few, same.1, parts_room, seen.auto.parts, w.if-seen-parts.true))
