@@ -51,8 +51,42 @@ assert twin.refused.endswith("::feed_twin2") and "LineReader.feed_twin2.Goals" i
 END
 }
 
+# that bodies of niss_cube were refused counts until something changes that this stands on: the tools, their texts, the crate or one below it
+is_kept() {
+    copied && mkdir -p "$copy/crates/niss_cube/specs" && touch "$copy/crates/niss_cube/specs/Names.antt" && python3 -B - "$copy" << 'END'
+import sys
+from pathlib import Path
+
+top = Path(sys.argv[1])
+sys.path.insert(0, f"{top}/tools")
+
+from bodies import read
+from marks import Mark, sum_of
+
+bodies = read(f"{top}/tests/wrong-bodies/niss_cube/cube.txt")
+
+
+def stands(count: int = len(bodies)) -> bool:
+    sum_of.cache_clear()
+    return Mark("niss_cube", bodies[:count]).stands()
+
+
+assert not stands()
+with Mark("niss_cube", bodies).in_turn():
+    Mark("niss_cube", bodies).set()
+assert stands() and not stands(1)
+for path in ("tools/verdicts.py", "tests/wrong-bodies/niss_cube/step.txt", "crates/niss_cube/specs/Names.antt", "crates/niss_moves/src/turn.rt"):
+    text = (top / path).read_text(encoding="utf-8")
+    (top / path).write_text(f"{text}\n", encoding="utf-8")
+    assert not stands(), path
+    (top / path).write_text(text, encoding="utf-8")
+    assert stands(), path
+END
+}
+
 holds "each wrong body can be made, and names a function of its crate" tools/wrong-bodies --read
 holds "a second body of a function is made in a twin of it" has_twin
+if missing rt; then skips "that what was refused is kept"; else holds "what was refused is kept as long as nothing changes" is_kept; fi
 holds "the copy has no fault of its own" is_sound
 body=niss_moves/turn_opposite_is_itself
 holds "a function that is gone is named" says "NOT MADE: $body: the crate has no function niss_moves::turn::Face::gone" \
