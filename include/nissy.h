@@ -23,8 +23,8 @@
 
 /* The version of this header and of the library that it comes with; and as one number, such as 10200 for 1.2.0, for #if. nissy_version
  * returns that of the library that runs. */
-#define NISSY_VERSION "3.0.0"
-#define NISSY_VERSION_NUMBER 30000
+#define NISSY_VERSION "3.1.0"
+#define NISSY_VERSION_NUMBER 30100
 
 #include <stddef.h>
 #include <stdint.h>
@@ -231,9 +231,9 @@ nissy_search_answer nissy_solve(const nissy_tables *tables, const uint8_t *line,
 nissy_search_answer nissy_solve_after(const nissy_tables *tables, const uint8_t *line, size_t line_length, const uint8_t *after, size_t after_length,
                                       uint8_t limit, uint8_t slack, uint64_t most, uint64_t most_nodes, uint8_t *out, size_t out_room);
 
-/* Does what nissy_solve does with room enough, but writes nothing: it counts the solutions, and no more than `most` of them. With `most`
- * 0 it ends at the first one, and so finds the least length soonest: `more` is 1 then if there is one. With NISSY_ALL twice and the slack
- * 0 these are the numbers of the program's `count`. It takes no memory. */
+/* Does what nissy_solve does with room enough, but writes nothing: it counts the solutions, and no more than `most` of them. With `most` 0 it ends at
+ * the first one, and so finds the least length soonest: if there is one, `more` is 1 and `least` its turns. With NISSY_ALL twice and the slack 0
+ * these are the numbers of the program's `count`. It takes no memory. */
 nissy_search_answer nissy_count(const nissy_tables *tables, const uint8_t *line, size_t line_length, uint8_t limit, uint8_t slack, uint64_t most,
                                 uint64_t most_nodes);
 
@@ -308,21 +308,20 @@ typedef struct nissy_ways_answer {
     uint64_t nodes;  /* after these at how many positions it looked */
 } nissy_ways_answer;
 
-/* Puts the best ways on from a scramble and the moves so far into the room, the best first: each edge orientation over both sides, and after
- * it the reduction on each of two axes with the fewest moves in all, over both sides too; of a cube that is oriented the reductions; of one
- * that is reduced nothing. MANUAL.md says which ways there are, and in what order. Moves of both lines in brackets are made on the inverse
- * scramble; those so far, and the ways, name the faces as the moves outside brackets leave the cube.
+/* Puts the best ways on from a scramble and the moves so far into the room, the best first: each edge orientation over both sides, and after it the
+ * reduction on each of two axes with the fewest moves in all, over both sides too; of a cube that is oriented the reductions; of one that is reduced
+ * nothing. MANUAL.md says which ways there are, and in what order. Moves of both lines in brackets are made on the inverse scramble; those so far,
+ * and the ways, name the faces as the moves outside brackets leave the cube.
  *
- * `tables` are nine, in the order of nissy_steps: eofb, eorl, eoud, drud-eofb, drrl-eofb, drud-eorl, drfb-eorl, drrl-eoud, drfb-eoud. `wanted`
- * may name some axes and lengths only: so a search goes in parts, between which a caller says how far it is, or ends it. The tables of an
- * axis that it doesn't name may be NISSY_NO_TABLES. The ways of all parts come into one room, if each call is told how many are there:
- * the best of them stay, as many as have place, whatever the order of the parts. It looks at no more than `most_nodes` positions: if these
- * may not be enough it ends with NISSY_CUT, maybe before it has looked at all of them, and each way that is there is a true one.
+ * `tables` are nine, in the order of nissy_steps: eofb, eorl, eoud, drud-eofb, drrl-eofb, drud-eorl, drfb-eorl, drrl-eoud, drfb-eoud. `wanted` may
+ * name some axes and lengths only: so a search goes in parts, between which a caller says how far it is, or ends it. The tables of an axis that it
+ * doesn't name may be NISSY_NO_TABLES. The ways of all parts come into one room, if each call is told how many are there: the best of them stay, as
+ * many as have place, whatever the parts' order. It looks at no more than `most_nodes` positions: if these may not be enough it ends with NISSY_CUT,
+ * maybe before it has looked at all of them, and each way there is a true one. With a bound ask by axis and length: one call may end without a row.
  *
- * It takes no memory, but 64 KiB of stack. NISSY_USAGE: tables that it asks aren't those of their steps, a number is out of its range, or
- * `there` is more than the room. NISSY_STOPPED, NISSY_FAULT: as of nissy_check; NISSY_TOO_LONG of line 2 without a column if both lines
- * have too many moves together: those so far more than 200 face turns on a side, or all more than 512. After these three the room is as
- * it was. */
+ * It takes no memory, but 64 KiB of stack. NISSY_USAGE: tables that it asks aren't those of their steps, a number is out of its range, or `there` is
+ * more than the room. NISSY_STOPPED, NISSY_FAULT: as of nissy_check; NISSY_TOO_LONG of line 2 without a column if both lines have too many moves
+ * together: those so far more than 200 face turns on a side, or all more than 512. After these three the room is as it was. */
 nissy_ways_answer nissy_best(const nissy_tables *tables, const uint8_t *scramble, size_t scramble_length, const uint8_t *so_far, size_t so_far_length,
                              const nissy_ways_wanted *wanted, nissy_way *room, size_t room_length);
 
@@ -350,13 +349,14 @@ typedef struct nissy_sides_answer {
     uint64_t nodes;     /* after these at how many positions it looked */
 } nissy_sides_answer;
 
-/* Puts the solutions of the step whose tables these are into the room, from a scramble and the moves so far: pairs of turns on the scramble
- * and on its inverse, together of exactly that many turns, which reach the step, and whose first turns don't. They come by their turns on the
- * scramble, fewer ones first, and then in turn order of the shorter side, and of the other. So a caller goes from length to length, the
- * shortest from 0 on, and through a long list in parts, by those that are passed over. Lines and names are those of nissy_best.
+/* Puts the solutions of the step whose tables these are into the room, from a scramble and the moves so far: pairs of turns on the scramble and on
+ * its inverse, together of exactly that many turns, which reach the step, and whose first turns don't. They come by their turns on the scramble,
+ * fewer ones first, and then in turn order of the shorter side, and of the other. So a caller goes from length to length, the shortest from 0 on, and
+ * through a long list in parts, by those that are passed over. Lines and names are those of nissy_best: give a line with rotations as
+ * nissy_line_after writes it, if the moves are to be those of nissy_solve.
  *
- * It takes no memory, but 64 KiB of stack. NISSY_USAGE: there are no tables, or a number is out of its range. NISSY_CUT: it would look at more
- * than `most_nodes` positions. */
+ * It takes no memory, but 64 KiB of stack. NISSY_USAGE: there are no tables, or a number is out of its range. NISSY_CUT: it would look at more than
+ * `most_nodes` positions. */
 nissy_sides_answer nissy_solve_sides(const nissy_tables *tables, const uint8_t *scramble, size_t scramble_length, const uint8_t *so_far,
                                      size_t so_far_length, const nissy_sides_wanted *wanted, nissy_way_part *room, size_t room_length);
 

@@ -175,16 +175,15 @@ inline std::string rewritten(decltype(nissy_invert) *call, std::string_view line
     return out;
 }
 
-// A number from 0 to 20 as the library takes it.
-inline std::uint8_t turns(std::int64_t number, const char *name) {
-    if (number < 0 || number > 20) throw std::out_of_range(std::string("nissy: ") + name + " isn't 0 to 20");
-    return static_cast<std::uint8_t>(number);
+// A number of at most this one as the library takes it; one below 0 is above each.
+inline std::uint32_t at_most(std::uint32_t most, std::uint64_t number, const char *name) {
+    if (number > most) throw std::out_of_range(std::string("nissy: ") + name + " isn't 0 to " + std::to_string(most));
+    return static_cast<std::uint32_t>(number);
 }
 
-// A number of at most this one as the library takes it.
-inline std::uint32_t at_most(std::uint32_t most, std::uint64_t number) {
-    if (number > most) throw std::out_of_range("nissy: a number is out of its range");
-    return static_cast<std::uint32_t>(number);
+// A number from 0 to 20 as the library takes it.
+inline std::uint8_t turns(std::int64_t number, const char *name) {
+    return static_cast<std::uint8_t>(at_most(20, static_cast<std::uint64_t>(number), name));
 }
 
 using kept_tables = std::map<std::string, nissy_tables, std::less<>>;
@@ -317,14 +316,14 @@ inline verdict check(std::string_view scramble, std::string_view solution) {
 
 // The first scramble of this length, at most 256 turns, of the generator that begins with this state and stream: what `scrambles` begins with.
 inline std::string scramble(std::uint64_t state, std::uint64_t stream, std::uint64_t length) {
-    const std::uint32_t turns = detail::at_most(256, length);
+    const std::uint32_t turns = detail::at_most(256, length, "length");
     return detail::text_of([=](std::uint8_t *out, std::size_t room) { return nissy_scramble(state, stream, turns, out, room); });
 }
 
 // `count` scrambles of this length, at most 10,000, all of the generator that begins with this state and stream, as the program makes them.
 inline std::vector<std::string> scrambles(std::uint64_t state, std::uint64_t stream, std::uint64_t length, std::uint64_t count) {
     constexpr std::size_t MOST_OF_TURN = 3; // bytes of a turn, with the blank or the line feed after it
-    const std::size_t room = detail::at_most(10000, count) * (detail::at_most(256, length) * MOST_OF_TURN + 1);
+    const std::size_t room = detail::at_most(10000, count, "count") * (detail::at_most(256, length, "length") * MOST_OF_TURN + 1);
     std::string words = "scramble";
     for (const std::uint64_t number : {state, stream, length, count}) words += '\0' + std::to_string(number);
     std::string out(room, '\0');

@@ -46,6 +46,7 @@ inline std::string turns_of(std::string_view line) {
 // then in turn order. Those on the inverse stand in brackets, such as "R U (F)", and `length` counts both. One that is cut has a beginning of them.
 inline found find(const tables &by, std::string_view line, nissy_sides sides, const search &which = {}) {
     const std::uint8_t limit = detail::turns(which.limit, "limit"), slack = detail::turns(which.slack, "slack");
+    if (sides < NISSY_NORMAL || sides > NISSY_BOTH) throw std::out_of_range("nissy: sides isn't 1 to 3");
     const std::string turns = continuing::turns_of(line);
     std::vector<nissy_way_part> room(static_cast<std::size_t>(std::min<std::uint64_t>(which.most, 1000)));
     found all = {{}, {std::nullopt, 0, 0}};

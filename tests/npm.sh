@@ -46,6 +46,13 @@ holds "each link of its pages leads to one of them" test -z "$(dead_links "$pack
 block() { sed -n "/^\`\`\`$1\$/,/^\`\`\`\$/p" "$package/README.md" | sed '1d;/^```$/,$d'; } # KIND: the first block of this kind on its page
 example() { block js > "$user/example.mjs" && cmp <(block text) <(in_folder node example.mjs) && rm "$user/example.mjs"; }
 holds "the example of its page prints what the page says" example
+mapped() {
+    (cd "$package" && node -e 'const { exports } = require("./package.json");
+        const [, map] = require("fs").readFileSync("README.md", "utf8").match(/"importmap">\n(.*)\n/);
+        const isOther = ([name, path]) => path !== exports[name.replace("nissy", ".")].default.replace(".", "./node_modules/nissy");
+        process.exitCode = Object.entries(JSON.parse(map).imports).filter(isOther).length;')
+}
+holds "the import map of its page leads to what the package exports" mapped
 holds "they speak of nothing that only the repository has" refuses grep -nE '\bmake (all|lib|page|dist|test|install|build)|repository|tools/|web/' \
     "$package"/{README,MANUAL,COOKBOOK,MANY,WORDS,ABI}.md
 holds "it names no licence" refuses grep -q '"license"' "$package/package.json"

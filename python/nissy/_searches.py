@@ -2,7 +2,7 @@
 from __future__ import annotations
 
 import ctypes
-from itertools import chain, repeat
+from itertools import chain, compress, repeat
 from typing import Any, Dict, Iterable, Iterator, List, Optional, Tuple, Union, overload
 
 from . import _library, _rooms
@@ -12,7 +12,7 @@ from ._lines import MOST_WORD, fault_of, fault_text, start_of
 from ._many import Asking, Piece, in_pieces, one_by_one
 from ._places import place_of
 from ._sides import Sides, sides_of, solve_sides
-from ._values import Count, Cut, Fault, Solution, Solutions, StartFault, value_of
+from ._values import Count, Cut, Fault, Solution, Solutions, StartFault, counted, value_of
 
 MOST_TURNS = 20
 # A piece of solutions that are asked for one after another has this many at most, and is found by looks at this many
@@ -22,8 +22,9 @@ _MOST_OF_PIECE, _NODES_OF_PIECE = 4096, 1 << 20
 _ENDS = ("(0)\n", *(f" ({length})\n" for length in range(1, MOST_TURNS + 1)))
 
 
-# where an answer has the length of the shortest, in bytes, and two other numbers, in words of eight bytes
-_LEAST, _SOLUTIONS, _NODES = 2, 2, 3
+# where an answer has the length of the shortest, and whether there are more, in bytes, and two other numbers, in words
+# of eight bytes
+_LEAST, _MORE, _SOLUTIONS, _NODES = 2, 3, 2, 3
 # the numbers of a search as the library takes them: limit, slack, most solutions and most nodes
 _Numbers = Tuple[int, int, int, int]
 
@@ -58,7 +59,7 @@ class _Search:
         if answer.more:
             found.more, found.cut = True, status == CUT
             if status and not partial:
-                raise Cut(Count(answer.least if found else None, len(found), found.nodes, True), found)
+                raise Cut(counted(answer.least, len(found), found.nodes, True, True), found)
         return found
 
     def solve_on(self, sides: Sides, numbers: _Numbers, partial: bool, data: bytes) -> Solutions:
@@ -66,7 +67,7 @@ class _Search:
         if answer.status not in (DONE, CUT):
             raise self._fault(answer.status, answer.fault, answer.column, data)
         if found.cut and not partial:
-            raise Cut(Count(found[0].length if found else None, len(found), found.nodes, True), found)
+            raise Cut(counted(found[0].length if found else 0, len(found), found.nodes, True, True), found)
         return found
 
     def pieces(self, limit: int, slack: int, data: bytes) -> Iterator[Solutions]:
@@ -102,10 +103,10 @@ class _Search:
 
     def count(self, numbers: _Numbers, partial: bool, data: bytes) -> Count:
         answer = _library.nissy_count(self._tables, data, len(data), *numbers)
-        status, found = answer.status, answer.solutions
+        status = answer.status
         if status and status != CUT:
             raise self._fault(status, answer.fault, answer.column, data)
-        count = Count(answer.least if found else None, found, answer.nodes, status == CUT)
+        count = counted(answer.least, answer.solutions, answer.nodes, answer.more, status == CUT)
         if status and not partial:
             raise Cut(count)
         return count
@@ -125,15 +126,18 @@ class _Search:
         found = words[_SOLUTIONS :: size // 8].tolist()
         # of most pieces: no line of Python is run for a count
         if told[::size].count(DONE) == len(found) and 0 not in found:
-            return map(
-                value_of, repeat(Count), zip(told[_LEAST::size], found, words[_NODES :: size // 8], repeat(False))
-            )
+            numbers = zip(told[_LEAST::size], found, words[_NODES :: size // 8], repeat(False))
+            made: Iterable[Count] = map(value_of, repeat(Count), numbers)
+            counts = list(made)
+            for count in compress(counts, told[_MORE::size]):
+                count.more = True
+            return counts
         answers = enumerate(SEARCH_ANSWER.iter_unpack(told))
         return [
-            value_of(Count, (least if found else None, found, nodes, False))
+            counted(least, found, nodes, more, False)
             if not status
             else self._not_counted(partial, piece, at, (status, fault, least, column, found, nodes))
-            for at, (status, fault, least, _, column, _, found, nodes) in answers
+            for at, (status, fault, least, more, column, _, found, nodes) in answers
         ]
 
     def _not_counted(self, partial: bool, piece: Piece, at: int, told: Tuple[int, ...]) -> Union[Count, Fault, Cut]:
@@ -142,7 +146,7 @@ class _Search:
         number, data = piece.line(at)
         if status != CUT:
             return self._fault(status, fault, column, data, number)
-        count = Count(least if found else None, found, nodes, True)
+        count = counted(least, found, nodes, True, True)
         return count if partial else Cut(count, (), number)
 
     def _fault(self, status: int, fault: int, column: int, data: bytes, line: Optional[int] = None) -> Fault:
@@ -207,7 +211,8 @@ def solve(
     """The solutions of a line: those that have at most `limit` turns and at most `slack` more than the shortest, by
     length and then in turn order, as `nissy near` writes them (`nissy solve` with slack 0). With `most` no more
     than that many of them, and the search ends at the next one. With `nodes` the search looks at no more than that many
-    positions: if it would look at more, Cut is raised, or with `partial` what was found until then is returned.
+    positions: if it would look at more, Cut is raised, or with `partial` what was found until then is returned. They
+    name moves by the centres: after a line with rotations, slices or wide turns they follow `line_after(line)`.
 
     With `sides` "inverse" or "both" they are on the inverse of the line, or over both: those on the inverse stand in
     brackets, such as "R U (F)", and of `length` both count. These, and those of "normal", are the ones whose first
@@ -238,8 +243,8 @@ def count(
     partial: bool = False,
 ) -> Count:
     """How many solutions `solve` returns of a line, of which length the shortest are, and how many positions the search
-    looks at. With `most=1` it ends at the second one, and so finds the length soonest. Takes `nodes` and `partial`
-    as `solve` does. Raises LineFault, StartFault and Cut."""
+    looks at. With `most=1` it ends at the second one, and with `most=0` at the first, which isn't counted: so it finds
+    the length soonest. Takes `nodes` and `partial` as `solve` does. Raises LineFault, StartFault and Cut."""
     search = _search(step)
     return search.count(_numbers(limit, slack, most, nodes), partial, bytes_of(line, "the line"))
 

@@ -46,8 +46,8 @@ class Solutions(List[Solution]):
         return {"solutions": list(map(str, self)), "more": self.more, "nodes": self.nodes, "cut": self.cut}
 
 
-class Count(NamedTuple):
-    """How many solutions there are. A number that is 2^64 - 1 stands for all numbers above it too."""
+class _Counted(NamedTuple):
+    """What a Count has as a tuple."""
 
     length: Optional[int]
     """How many turns the shortest have, or None if there are none."""
@@ -58,9 +58,25 @@ class Count(NamedTuple):
     """Whether the search ended at its bound: then there may be more solutions, and if
     `length` is None, it isn't known."""
 
+
+class Count(_Counted):
+    """How many solutions there are. A number that is 2^64 - 1 stands for all numbers above it too."""
+
+    more: bool = False
+    """Whether there are others beyond `most`, or may be beyond a cut. It is beside the tuple, which has four values."""
+
     def __repr__(self) -> str:
         cut = ", cut=True" if self.cut else ""
         return f"Count(length={self.length}, solutions={self.solutions}, nodes={self.nodes}{cut})"
+
+
+def counted(least: int, solutions: int, nodes: int, more: int, cut: bool) -> Count:
+    """Returns how many solutions a search told of. The length is known if there is one, also one that isn't counted."""
+    is_known = solutions or (more and not cut)
+    count = value_of(Count, (least if is_known else None, solutions, nodes, cut))
+    if more:
+        count.more = True
+    return count
 
 
 class Fault(ValueError):

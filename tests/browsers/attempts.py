@@ -54,7 +54,7 @@ DOUBTS = (
         "D",
         11,
     ),
-    ("R' U' F D R' U' F R U", "R' U' F D R' U' F R U", "this may be more than a scramble, or none", "R", 0),
+    ("R' U' F D R' U' F R U", "R' U' F D R' U' F R U", "moves of this line may be of a scramble, or of a step", "R", 0),
 )
 SHEET = (
     "Hello!\nScramble 1 of 3\nR U F\nD // EO\n\nL2\n// a note\n\nScramble 2 of 3\nF' L2, U\nScramble 3 of 3\nB2 R q\n"

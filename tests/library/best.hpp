@@ -117,6 +117,11 @@ void sides_are_listed() {
     throw_each<nissy::cut>(line, {[&] { nissy::solve(tables, line, NISSY_BOTH, {20, 0, NISSY_ALL, 3}); }});
     throw_each<nissy::fault>("R q",
                              {[&] { nissy::solve(tables, "R q", NISSY_BOTH); }, [] { nissy::solve(nissy::tables("drfb-eorl"), "R", NISSY_BOTH); }});
+    const auto none = static_cast<nissy_sides>(0);
+    throw_each<std::out_of_range>("no side", {[&] { nissy::solve(tables, line, none); }, [&] { nissy::find(tables, line, none, {20, 0, 0}); }});
+    const nissy::tables turned("eoud");
+    for (const nissy_sides sides : {NISSY_NORMAL, NISSY_INVERSE, NISSY_BOTH})
+        holds(nissy::solve(turned, "x F", sides) == nissy::solve(turned, "D", sides), "by the centres", "x F");
 }
 
 } // namespace

@@ -40,6 +40,8 @@ def main() -> None:
     places = ffi.new("uint64_t[]", 12)
     plain = nissy.nissy_plain(b"R, U", 4, out, len(out), places, len(places))
     tally.equal("a text", (bytes(out[0 : plain.length]), plain.left_out), (b"R  U", nissy.NISSY_COMMAS))
+    doubts = nissy.NISSY_INSERTION, nissy.NISSY_A_PART, nissy.NISSY_WHICH_SCRAMBLE, nissy.NISSY_ANOTHER_ATTEMPT
+    tally.equal("each doubt has its number", doubts, (8, 9, 10, 13))
     line = b"R M2' r"
     form = nissy.nissy_next_form_place(line, len(line), 0)
     tally.equal("a form", (form.column, form.last, form.forms), (3, 5, nissy.NISSY_SLICES | nissy.NISSY_HALF_PRIME))

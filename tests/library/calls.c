@@ -112,6 +112,8 @@ static void solves_fewer(const nissy_tables *tables, const search_row *row, uint
     holds(cut.status == NISSY_DONE && cut.more == 1 && cut.solutions == solutions - 1, "one fewer at most", row->line);
     is_beginning(cut, out, row);
     holds(is_same(cut, count_of(tables, row, solutions - 1, NISSY_ALL)), "a count of one fewer", row->line);
+    cut = count_of(tables, row, 0, NISSY_ALL);
+    holds(cut.status == NISSY_DONE && cut.more == 1 && cut.solutions == 0 && cut.least == row->least, "a count of none has the length", row->line);
     let_go(out);
     out = untouched(0);
     cut = solve(tables, row, solutions - 1, NISSY_ALL, out);

@@ -62,7 +62,7 @@ def copies(tally: Tally) -> None:
     values: List[Any] = [
         nissy.solve("eofb", "F B"),
         nissy.solve("eofb", "F B")[0],
-        nissy.count("eofb", "R U F"),
+        nissy.count("eofb", "R U F", most=1),
         nissy.facts("R"),
         nissy.facts("R").bad_edges["rl"],
         nissy.facts("R").case["ud"],

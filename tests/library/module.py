@@ -86,7 +86,7 @@ def names(tally: Tally) -> None:
 def classes(tally: Tally) -> None:
     """What tools ask of the classes."""
     hints: List[Any] = [
-        (nissy.Count, {"length": Optional[int], "solutions": int, "nodes": int, "cut": bool}),
+        (nissy.Count, {"length": Optional[int], "solutions": int, "nodes": int, "cut": bool, "more": bool}),
         (nissy.Answer, {"status": int, "out": bytes, "err": bytes, "full": bool}),
         (
             nissy.Continuation,

@@ -108,6 +108,15 @@ void columns_are_counted() {
     holds(facts[1].column() == 7 && facts[1].character(LINES.substr(2)) == 5 && facts[0].character(LINES) == 0, "one of many lines", "U2’ q");
 }
 
+void says_which_number(const call &asked, const std::string &what) {
+    try {
+        asked();
+        holds(0, "it throws", what.c_str());
+    } catch (const std::out_of_range &thrown) {
+        holds(thrown.what() == what, "what it says", what.c_str());
+    }
+}
+
 void misuse_is_thrown() {
     const nissy::tables tables("eofb");
     const std::string blanks(NISSY_MOST_INPUT + 1, ' ');
@@ -131,6 +140,9 @@ void misuse_is_thrown() {
         throw_each<std::out_of_range>("a length or a count", {[&] { nissy::scramble(1, 2, number); }, [&] { nissy::scrambles(1, 2, number, 1); },
                                                               [&] { nissy::scrambles(1, 2, 3, number); }});
     throw_each<std::out_of_range>("257 turns", {[] { nissy::scramble(1, 2, 257); }, [] { nissy::scrambles(1, 2, 257, 0); }});
+    says_which_number([] { nissy::scrambles(1, 2, 3, 10001); }, "nissy: count isn't 0 to 10000");
+    says_which_number([] { nissy::scrambles(1, 2, 257, 3); }, "nissy: length isn't 0 to 256");
+    says_which_number([&] { tables.solve("F", {20, -1}); }, "nissy: slack isn't 0 to 20");
     throw_each<std::length_error>("16,777,217 blanks", {[&] { nissy::invert(blanks); }, [&] { tables.solve(blanks); }, [&] { tables.count(blanks); },
                                                         [&] { nissy::check("R", blanks); }, [&] { nissy::facts(blanks); },
                                                         [&] { nissy::best(blanks); }, [&] { nissy::facts_all(blanks)[0].value(); }});
@@ -143,6 +155,8 @@ void many_lines_are_answered() {
     const nissy::tables tables("eofb"), reduction("dr-eofb");
     const auto counts = tables.count_all("F\nR q\n\nF B");
     holds(counts.size() == 4 && counts[0].value() == nissy::count{1, 2, 20} && counts[2].value().length == 0, "the counts", "four lines");
+    const nissy::count none = tables.count("F B", {20, 0, 0});
+    holds(none.length == 2 && none.more && none.solutions == 0, "a count of none has the length", "F B");
     holds(counts[3] && counts[3].value() == tables.count("F B") && counts[3].status() == NISSY_DONE, "the last one", "four lines");
     holds(!counts[1] && counts[1].status() == NISSY_FAULT && counts[1].code() == NISSY_NOT_A_MOVE && counts[1].column() == 3, "a fault", "R q");
     has_fault([&] { counts[1].value(); }, NISSY_NOT_A_MOVE, 3, "nissy: column 3: not a move");

@@ -76,6 +76,15 @@ def searches(tally: Tally) -> None:
         for most in range(len(wanted) + 2):
             some = untyped.solve(*given, most=most)
             tally.equal(f"at most {most}", (some, some.more), (wanted[:most], most < len(wanted)))
+            few = [
+                untyped.count(*given, most=most),
+                *untyped.count_all(given[0], [given[1]] * 2, *given[2:], most=most),
+            ]
+            tally.equal(
+                f"a count of at most {most}, which knows the length also if it counts none",
+                [(it.length, it.solutions, it.more) for it in few],
+                [(pairs[0][1] if pairs else None, min(most, len(wanted)), most < len(wanted))] * 3,
+            )
         one_by_one = list(untyped.solutions(given[0], given[1], limit=(given + (20,))[2], slack=(given + (0, 0))[3]))
         tally.equal(
             "one by one",

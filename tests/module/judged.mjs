@@ -162,7 +162,7 @@ export async function tryBounds(nissy) {
   same("a cut after a fault that is told", [mixed.name, mixed.line], ["SearchCut", 3]);
   const told = await nissy.countAll("eofb", ["", "F B", "F"], { nodes: 30, cut: "value" });
   same("a cut of many, told", told.map((count) => count.cut), [undefined, true, undefined]);
-  same("no nodes at all", await nissy.count("eofb", "R U F", { nodes: 0, cut: "value" }), { length: null, solutions: 0, nodes: 0, cut: true });
+  same("no nodes at all", await nissy.count("eofb", "R U F", { nodes: 0, cut: "value" }), { length: null, solutions: 0, nodes: 0, more: true, cut: true });
   const long = ["R U F2 L D R B", "q"];
   const limited = { slack: 4, cut: "value", nodes: 100_000 };
   same("a long search among many", await nissy.countAll("eo", long.slice(0, 1), limited), [await nissy.count("eo", long[0], limited)]);
@@ -170,7 +170,12 @@ export async function tryBounds(nissy) {
   same("a long one that ends", await nissy.countAll("eo", long.slice(0, 1), { slack: 3 }), [await nissy.count("eo", long[0], { slack: 3 })]);
   const endless = await nissy.count("eo", "R U F2 L D R B", { slack: 20, nodes: 1_000_000, cut: "value" });
   same("a search that would take days", [endless.cut, endless.nodes <= 1_000_000], [true, true]);
-  same("the first solution alone", (await nissy.count("eofb", "F B", { most: 1 })).solutions, 1);
+  for (const most of [0, 3, 4]) {
+    const wanted = most < 4 ? { length: 2, solutions: most, more: true } : { length: 2, solutions: 4 };
+    const counts = [await nissy.count("eofb", "F B", { most }), ...(await nissy.countAll("eofb", ["F B"], { most }))];
+    same(`a count of at most ${most} knows the length`, counts.map(({ nodes, ...others }) => others), [wanted, wanted]);
+  }
+  same("a count of none that are", (await nissy.count("eofb", "F B", { most: 0, limit: 1 })).length, null);
   same("its length", (await nissy.countAll("eofb", ["F B", "R", "F"], { most: 1 })).map(({ length }) => length), [2, 0, 1]);
   for (const nodes of [-1, 0.5, Number.NaN, 2 ** 53]) {
     same(`${nodes} nodes`, (await thrown(() => nissy.count("eofb", "F", { nodes })))[0], "RangeError");

@@ -74,11 +74,32 @@ function tryOneSide(line, step) {
   return both.length;
 }
 
-/** The moves name the faces as a cube is held that the line turned. */
+/** The moves name the faces by the centres, as those on the line do, also if the line turns them. */
 function tryTurned(line) {
-  const solutions = nissy.solve("eofb", line, { sides: "both", slack: 1 });
-  const reach = solutions.filter(({ moves }) => nissy.facts(nissy.lineAfter(line, moves)).holds.includes("eofb"));
-  same(`after ${line} each reaches it`, [reach.length > 2, reach.length], [true, solutions.length]);
+  const clean = nissy.lineAfter(line);
+  for (const step of ["eofb", "eorl", "eoud"]) {
+    const plain = nissy.solve(step, line).map(({ moves }) => moves);
+    same(`${step} after ${line}`, nissy.solve(step, line, { sides: "normal" }).map(({ moves }) => moves), plain);
+    for (const sides of ["normal", "inverse", "both"]) {
+      const solutions = nissy.solve(step, line, { sides, slack: 1 });
+      same(`${step} after ${line}, ${sides}`, solutions, nissy.solve(step, clean, { sides, slack: 1 }));
+      const reach = solutions.filter(({ moves }) => nissy.facts(nissy.lineAfter(clean, moves)).holds.includes(step));
+      same(`after ${clean} each reaches it`, [reach.length > 0, reach.length], [true, solutions.length]);
+    }
+  }
+}
+
+/** What is said of a list: whether there are others, and how far it looked. */
+function trySaid(step, line) {
+  const whole = nissy.solve(step, line, { sides: "both", slack: 1 });
+  for (const most of [0, 1, whole.length - 1, whole.length, whole.length + 1]) {
+    const some = nissy.solve(step, line, { sides: "both", slack: 1, most });
+    same(`at most ${most}`, [[...some], some.more], [whole.slice(0, most), most < whole.length]);
+  }
+  same("as many nodes as it needs", nissy.solve(step, line, { sides: "both", slack: 1, nodes: whole.nodes }).nodes, whole.nodes);
+  const cut = nissy.solve(step, line, { sides: "both", slack: 1, nodes: whole.nodes - 1, cut: "value" });
+  same("a node less", [cut.cut, cut.more, cut.nodes < whole.nodes], [true, true, true]);
+  same("within a limit there are no others", nissy.solve(step, line, { sides: "both", limit: whole[0].length, slack: 1, most: whole.length }).more, false);
 }
 
 /** What is cut, of many lines, in workers, and what no call takes. */
@@ -103,6 +124,7 @@ async function tryRest() {
   same("what was found until a cut", [found.length, count.solutions, count.nodes <= nodes], [count.solutions, found.length, true]);
   same("a bound that is none", nissy.solve("eofb", "R U F", { sides: "both", slack: 1, nodes: 10_000 }), wanted);
   same("none", nissy.solve("eofb", "R U F", { sides: "both", most: 0 }), []);
+  same("none of a line at fault", (await thrown(() => nissy.solve("eofb", "q", { sides: "both", most: 0 })))[1], "column 1: not a move");
   same("within a limit", nissy.solve("eofb", "F R U F' L B", { sides: "both", limit: 0 }), []);
   same("an error of its own", new SearchCut(count, found) instanceof Error, true);
   worker.end();
@@ -114,6 +136,7 @@ same("enough pairs", tried.reduce((sum, each) => sum + each) > 20, true);
 const scramble = nissy.scramble(20261127, 1, 25);
 const counts = ["eofb", "eorl", "eoud"].map((step) => tryOneSide(scramble, step));
 same("more than come at once", Math.max(...counts) > 4_096, true);
-tryTurned("y R U F x");
+for (const line of ["y R U F x", "x F", "M F", "F (Rw U) z", "(F z R)", "R' z (U F)"]) tryTurned(line);
+for (const [step, line] of [["eofb", "R U F"], ["eoud", "x F"], ["drud-eofb", "R U R"]]) trySaid(step, line);
 await tryRest();
 ended();

@@ -1,8 +1,9 @@
 // A caller in TypeScript, who is told of what is wrong: tests/module.sh has tsc read this beside the types of the module.
 import {
   AXES, loadNissy, NET, Nissy, NissyFault, NissyPool, NissyWorker, placeOf, SearchCut, startOf, STEPS, stickersOf, VERSION,
-  type Attempt, type AttemptCheck, type Axis, type Best, type BestRow, type Check, type Count, type EdgePlace, type Facts, type Form, type FormPlace,
-  type PlainLine, type SideSolutions, type Solution, type Solutions, type Step, type TextPlace, type Token,
+  type Attempt, type AttemptCandidate, type AttemptCheck, type AttemptDoubt, type Axis, type Best, type BestRow, type BestStep,
+  type Check, type Count, type EdgePlace, type Facts, type Form, type FormInText, type FormPlace, type PlainLine, type SideSolutions, type Solution,
+  type Solutions, type Step, type Text, type TextPlace, type Token,
 } from "./node.js";
 import { NissyPool as NissyPoolOfBrowsers, NissyWorker as NissyWorkerOfBrowsers } from "./browser.js";
 import type { LineFault, LineReply, Seen, StartFault } from "./calls/replies.js";
@@ -42,7 +43,10 @@ export async function read(nissy: Nissy, worker: NissyWorker, text: string, plac
   const solution: PlainLine | null = written[0].solution;
   const place: TextPlace | null = placeOf({ character: 1 }, solution ?? written[0].scramble, text);
   const numbers: number[] = [...stickersOf([...places, "URF"]), ...stickersOf(places, text)];
-  return line.length + at.length + leftOut.length + written[0].candidates.length + written[0].before + (place?.column ?? 0) + numbers.length;
+  const tried: AttemptCandidate[] = written[0].candidates;
+  const doubt: AttemptDoubt | null = written[0].doubt;
+  const lines: Text[] = [line, Uint8Array.of(0x52), doubt?.reason ?? "", ...tried.map(({ note }) => note)];
+  return lines.length + at.length + leftOut.length + written[0].candidates.length + written[0].before + (place?.column ?? 0) + numbers.length;
 }
 
 export function drawn(nissy: Nissy): string {
@@ -67,7 +71,8 @@ export function judged(nissy: Nissy): string {
 export async function checked(nissy: Nissy, worker: NissyWorker, pool: NissyPool, text: string, signal: AbortSignal): Promise<string> {
   const later: AttemptCheck[][] = [await worker.checkAttempts(text, { signal }), await pool.checkAttempts(text)];
   const [{ attempt, check, fault, place, forms, doubt }]: AttemptCheck[] = [...nissy.checkAttempts(text), ...later.flat()];
-  const names: Form[] = forms.flatMap((form) => [...form.forms]);
+  const inText: FormInText[] = forms;
+  const names: Form[] = inText.flatMap((form) => [...form.forms]);
   const [of, told, wrong, where]: [Attempt, Check | null, NissyFault | null, TextPlace | null] = [attempt, check, fault, place];
   const pairs: readonly (readonly [string, Uint8Array])[] = [["R", Uint8Array.of(0x52)]];
   const both: Check[] = [...nissy.checkAll(pairs, { faults: "throw" }), ...(await worker.checkAll([["R", "R'"]], { faults: "throw", signal }))];
@@ -114,11 +119,12 @@ export async function followed(nissy: Nissy, worker: NissyWorker, bytes: Uint8Ar
   const after: string[] = [nissy.lineAfter(bytes), await worker.lineAfter("R", "(U)", { signal }), await pools[0].lineAfter("R x", bytes)];
   const best: Best = await pools[1].best("R U F", { slack: 1, nodes: 1_000, cut: "value" });
   const each: (Best | NissyFault | RangeError)[] = await pools[0].bestAll(["R U F"], { most: 3, signal, onProgress });
-  const step: BestRow["eo"] = nissy.bestAll(["R U F"], { faults: "throw" })[0][0].eo;
+  const step: BestStep | null = nissy.bestAll(["R U F"], { faults: "throw" })[0][0].eo;
   const overBoth: SideSolutions = await pools[0].solve("eofb", "R U F", { sides: "both", slack: 1, signal });
+  const said: [boolean, number, true | undefined] = [overBoth.more, overBoth.nodes, counts.find((it): it is Count => "solutions" in it)?.more];
   const inverse: string = nissy.solveAll("eofb", ["R U F"], { sides: "inverse", faults: "throw" })[0][0].inverse + overBoth[0].normal;
   for (const pool of pools) pool.end();
-  return [rows, total, eo?.moves, step?.inverse, inverse, each.length, best.nodes, lengths, tokens.map(({ layers }) => layers[0]), counts, facts, solutions, best, solved, pools[0].size, ...after].join(" ");
+  return [rows, total, eo?.moves, step?.inverse, inverse, said, each.length, best.nodes, lengths, tokens.map(({ layers }) => layers[0]), counts, facts, solutions, best, solved, pools[0].size, ...after].join(" ");
 }
 
 export async function oneByOne(nissy: Nissy, worker: NissyWorker, signal: AbortSignal): Promise<string> {

@@ -9,10 +9,11 @@ import type { Calls } from "./calls/calls.js";
 import type { ModuleSource } from "./engine/source.js";
 
 export type { Answer, Best, Count, SideSolutions, Solution, Solutions } from "./calls/replies.js";
-export type { AttemptCheck } from "./text/attempt-checks.js";
-export type { Attempt } from "./text/attempts.js";
+export type { AttemptCheck, FormInText } from "./text/attempt-checks.js";
+export type { Attempt, AttemptCandidate, AttemptDoubt } from "./text/attempts.js";
 export type { Axis, Check, CornerPlace, EdgePlace, Facts, Form } from "./shared/facts.js";
-export type { BestRow } from "./shared/ways.js";
+export type { Text } from "./shared/bytes.js";
+export type { BestRow, BestStep } from "./shared/ways.js";
 export type { BestWanted, Wanted } from "./calls/requests.js";
 export type { FormPlace, Token } from "./text/tokens.js";
 export type { PlainLine, TextPlace } from "./text/written.js";
@@ -25,7 +26,7 @@ export { NET, stickersOf } from "./shared/stickers.js";
 export { placeOf } from "./text/written.js";
 
 /** The version of the scripts, and of the module that comes with them. */
-export const VERSION = "3.0.0";
+export const VERSION = "3.1.0";
 
 /** The engine, loaded. After a call that broke off the next one starts the module anew, or throws `EngineMissing`. */
 export class Nissy {

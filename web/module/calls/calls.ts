@@ -42,7 +42,8 @@ export interface Calls<Time extends When> {
   tokens(line: Text, ...rest: Rest<Time>): Answered<Time, Token[]>;
   /** Where a line has forms that the WCA's notation for solutions hasn't: those of all places are `check`'s `forms`. */
   formPlaces(line: Text, ...rest: Rest<Time>): Answered<Time, FormPlace[]>;
-  /** The solutions of a step after a line, by length, then in turn order; with `sides` each has the moves of both. */
+  /** The solutions of a step after a line, by length, then in turn order; with `sides` each has the moves of both. They
+   * are named by the centres: after a line with rotations, slices or wide turns they follow `lineAfter(line)`. */
   solve<Name extends string, On extends Sides | undefined = undefined>(
     step: StepName<Name>, line: Text, options?: Wanted & OnSides<On> & Besides<Time>,
   ): Answered<Time, SolutionsOn<On>>;
@@ -54,9 +55,7 @@ export interface Calls<Time extends When> {
     step: StepName<Name>, lines: readonly Text[],
     options?: Wanted & OnSides<On> & Many<Faults> & ManyBesides<Time>,
   ): Answered<Time, Told<SolutionsOn<On>, Faults>[]>;
-  count<Name extends string>(
-    step: StepName<Name>, line: Text, options?: Wanted & Besides<Time>,
-  ): Answered<Time, Count>;
+  count<Name extends string>(step: StepName<Name>, line: Text, options?: Wanted & Besides<Time>): Answered<Time, Count>;
   countAll<Name extends string, Faults extends OnFaults = "value">(
     step: StepName<Name>, lines: readonly Text[], options?: Wanted & Many<Faults> & ManyBesides<Time>,
   ): Answered<Time, Told<Count, Faults>[]>;
@@ -99,7 +98,6 @@ export interface Calls<Time extends When> {
     state: number | bigint, stream: number | bigint, length: number, count: number, ...rest: Rest<Time>
   ): Answered<Time, string[]>;
   /** Does what the program does with these words after its name, and `input` as its standard input, which it reads if
-   * its words don't give it. What the program reports is in the answer. A word with a zero byte throws a `RangeError`.
-   */
+   * its words don't give it. What the program reports is in the answer. A zero byte in a word is a `RangeError`. */
   run(words: readonly Text[], input?: Text, ...rest: RunRest<Time>): Answered<Time, Answer>;
 }

@@ -16,15 +16,16 @@ export type Answer = { status: number; out: Uint8Array; err: Uint8Array; full: b
 export type Solution = { moves: string; length: number };
 
 /** Solutions; `more`: whether others are beyond `most`; `nodes`: how many positions it looked at; `cut`: it was cut. */
-export type Solutions = Solution[] & { readonly more: boolean; readonly nodes: number; cut?: true };
-
-export type SideSolutions = BestStep[] & { cut?: true };
+type ListOf<One> = One[] & { readonly more: boolean; readonly nodes: number; cut?: true };
+export type Solutions = ListOf<Solution>;
+export type SideSolutions = ListOf<BestStep>;
 
 export type SolutionsOn<On extends Sides | undefined> = On extends string ? SideSolutions : Solutions;
 
 /** How many solutions there are: the least length, null if there are none, and at how many positions the search looked.
- * If the search was cut, `cut` is there, and the numbers are those of what it found until then. */
-export type Count = { length: number | null; solutions: number; nodes: number; cut?: true };
+ * `more` is there if others are beyond `most`, or may be beyond a cut; `cut` if the search was cut, and the numbers are
+ * those of what it found until then. */
+export type Count = { length: number | null; solutions: number; nodes: number; more?: true; cut?: true };
 
 /** A line that can't be read; `text`: the program's words for its fault. */
 export type LineFault = { status: 1; fault: 1 | 2 | 3 | 4 | 5; column: number; character: number; text: string };
@@ -44,7 +45,7 @@ export type SolveBytesReply = Seen & { out: Uint8Array } | NoValue;
 /** How many there are of one length, if the search wasn't cut. */
 export type CountOfSides = { solutions: number; nodes: number; isCut: boolean };
 /** The rows that were found, as the module has them, and at how many positions it looked; `tried`: how many ways on. */
-export type FoundParts = { status: 0 | 5; parts: Uint8Array; nodes: number };
+export type FoundParts = { status: 0 | 5; parts: Uint8Array; more: boolean; nodes: number };
 export type FoundWays = { ways: Uint8Array; tried: number; nodes: number };
 export type BestReply = FoundWays & { status: 0 | 5 } | OfTwo;
 
@@ -110,9 +111,16 @@ const kept = (number: number) => ((number | 0) === number ? number | 0 : number)
 
 const READ = SEARCH_ANSWER.read;
 
-function countSeen({ answer, at }: Seen): Count {
-  const count = kept(READ.solutions(answer, at));
-  return { length: count === 0 ? null : READ.least(answer, at), solutions: count, nodes: kept(READ.nodes(answer, at)) };
+type End = Pick<FoundParts, "status" | "more" | "nodes">;
+const endSeen = ({ status, answer, at }: Seen): End =>
+  ({ status, more: READ.more(answer, at) === 1, nodes: kept(READ.nodes(answer, at)) });
+
+/** @param length of the shortest, if there is one: it is known also if that isn't counted */
+function countOf({ status, more, nodes }: End, length: number, solutions: number): Count {
+  const isKnown = solutions > 0 || (more && status !== STATUS.cut);
+  const count: Count = { length: isKnown ? length : null, solutions, nodes };
+  if (more) count.more = true;
+  return count;
 }
 
 /** What is told of a search that was cut, unless that is thrown. */
@@ -125,22 +133,19 @@ function cutOr<Value>(status: number, cut: Telling, value: Value & { cut?: true 
 
 export function solutionsIn(reply: SolveReply | FoundParts | NoValue, { cut }: { cut: Telling }): any {
   const seen = withValue(reply);
-  if ("out" in seen) {
-    const solutions = solutionsFrom(seen.out) as Solutions;
-    // beside its list, as its length is
-    Object.defineProperty(solutions, "more", { value: READ.more(seen.answer, seen.at) === 1 });
-    Object.defineProperty(solutions, "nodes", { value: kept(READ.nodes(seen.answer, seen.at)) });
-    return cutOr(seen.status, cut, solutions, () => new SearchCut(countSeen(seen), solutions));
-  }
-  const solutions: SideSolutions = bothSidesIn(seen.parts);
-  const count = { length: solutions[0]?.length ?? null, solutions: solutions.length, nodes: seen.nodes };
-  return cutOr(seen.status, cut, solutions, () => new SearchCut(count, solutions));
+  const solutions = "out" in seen ? solutionsFrom(seen.out) : bothSidesIn(seen.parts);
+  const end = "out" in seen ? endSeen(seen) : seen;
+  // beside its list, as its length is
+  Object.defineProperties(solutions, { more: { value: end.more }, nodes: { value: end.nodes } });
+  const error = () => new SearchCut(countOf(end, solutions[0]?.length, solutions.length), solutions);
+  return cutOr(end.status, cut, solutions as Solutions, error);
 }
 
 export function countIn(reply: Seen | NoValue, { cut }: { cut: Telling }): Count {
   const seen = withValue(reply);
-  const count = countSeen(seen);
-  return cutOr(seen.status, cut, count, () => new SearchCut(count, null));
+  const { answer, at, status } = seen;
+  const count = countOf(endSeen(seen), READ.least(answer, at), kept(READ.solutions(answer, at)));
+  return cutOr(status, cut, count, () => new SearchCut(count, null));
 }
 
 /** Reads masks: the names whose bits are 1, in an array that each caller gets for this mask, and none can change. */

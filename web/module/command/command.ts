@@ -129,8 +129,7 @@ function makeSearch(instance: Instance, search: Search) {
   else answerInput(read, (lines, first) => searchLines(instance, search, lines, first));
 }
 
-/** Does what the words say. If they read lines, they write nothing for an input without any; of the others only no
- * scrambles write nothing. */
+/** Does what the words say. Those that read lines write nothing for no input; of the others only no scrambles do so. */
 function obey(instance: Instance, words: string[]) {
   const search = searchOf(words);
   if (search !== undefined) makeSearch(instance, search);

@@ -98,9 +98,7 @@ function replyTo(each: OfEach, line: Text | Pair | null, answer: (asked: OfEach)
 }
 
 /** Answers lines in turn, up to the first whose answer ends the call. */
-export function answerAll(
-  instance: Instance, request: AllRequest, answer: (asked: OfEach) => OneReply,
-): AllReply {
+export function answerAll(instance: Instance, request: AllRequest, answer: (asked: OfEach) => OneReply): AllReply {
   const { each, lines } = request;
   const question = questionOf(instance, request);
   const size = STRUCTS[each.call]?.bytes ?? 0;

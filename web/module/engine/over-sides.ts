@@ -1,9 +1,9 @@
 // The solutions of a step over both sides of a line, by calls of the module on those of one length.
-import { joinedBytes } from "../shared/bytes.js";
+import { joinedBytes, type Text } from "../shared/bytes.js";
 import { SIDES_ANSWER, SIDES_WANTED, WAY_PART } from "../shared/layout.js";
 import { STATUS, hasValue, structOf } from "../shared/structs.js";
-import { refusal } from "./line-calls.js";
-import type { CountOfSides, FoundParts, NoValue } from "../calls/replies.js";
+import { refusal, rewritten } from "./line-calls.js";
+import type { CountOfSides, FoundParts, LineReply, NoValue } from "../calls/replies.js";
 import type { Instance } from "./instance.js";
 import type { RequestOf } from "../calls/requests.js";
 
@@ -19,7 +19,7 @@ const MORE_PARTS = 4;
 /** What is asked of one length. `passed`: how many solutions are passed over; `rows`: how many have place; `nodes`: at
  * how many positions it may look; `counts`: whether those without a place are counted, as 1 or 0. */
 type Piece = { length: number; passed: number; rows: number; nodes: number; counts: number };
-type FoundOfLength = FoundParts & { more: boolean; solutions: number };
+type FoundOfLength = FoundParts & { solutions: number };
 
 const SIDES_READ = SIDES_ANSWER.read;
 
@@ -49,20 +49,31 @@ export function countedOverSides(instance: Instance, request: RequestOf<"countSi
   return { solutions: found.solutions, nodes: found.nodes, isCut: found.status === STATUS.cut };
 }
 
+/** The face turns of a line, named by the centres, as solutions of the line name theirs. */
+function turnsOf(instance: Instance, line: Text): LineReply {
+  const whole = rewritten(instance, "nissy_unniss", line);
+  const clean = whole.status === STATUS.done ? rewritten(instance, "nissy_cleanup", whole.out) : whole;
+  return clean.status === STATUS.done ? { ...clean, out: clean.out.replace(/ ?[xyz].*/, "") } : clean;
+}
+
 /** The solutions of a step over the sides that are asked for, from the shortest on. */
 export function solvedOverSides(instance: Instance, request: RequestOf<"solveSides">): FoundParts | NoValue {
+  // a step that isn't there is told before a fault
+  instance.tablesOf(request.step);
+  const turns = turnsOf(instance, request.line);
+  if (turns.status !== STATUS.done) return turns;
   const all: Uint8Array[] = [];
-  let [count, nodes, longest, isCut] = [0, 0, request.limit, false];
-  let [length, passed, rows] = [0, 0, FIRST_PARTS];
-  while (length <= longest && count < request.most && !isCut) {
+  let [count, nodes, longest, more] = [0, 0, request.limit, false];
+  for (let [length, passed, rows] = [0, 0, FIRST_PARTS]; ;) {
     const bounds = { rows: Math.min(rows, request.most - count), nodes: request.nodes - nodes };
-    const found = foundOfLength(instance, request, { length, passed, ...bounds, counts: 0 });
+    const found = foundOfLength(instance, { ...request, line: turns.out }, { length, passed, ...bounds, counts: 0 });
     if (!("parts" in found)) return found;
     const taken = found.parts.length / WAY_PART.bytes;
     if (count === 0 && taken > 0) longest = Math.min(longest, length + request.slack);
     all.push(found.parts);
-    [count, nodes, isCut] = [count + taken, nodes + found.nodes, found.status === STATUS.cut];
+    [count, nodes, more] = [count + taken, nodes + found.nodes, found.more || found.status === STATUS.cut];
     [length, passed, rows] = found.more ? [length, passed + taken, rows * MORE_PARTS] : [length + 1, 0, FIRST_PARTS];
+    const isEnd = found.status === STATUS.cut || length > longest || (more && count === request.most);
+    if (isEnd) return { status: found.status, parts: joinedBytes(all), more, nodes };
   }
-  return { status: isCut ? STATUS.cut : STATUS.done, parts: joinedBytes(all), nodes };
 }

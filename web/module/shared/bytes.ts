@@ -1,5 +1,4 @@
-// Texts as bytes of UTF-8, and what callers hand over, checked: nothing of another type reaches the module, and nobody
-// can change it later.
+// Texts as bytes of UTF-8, and what callers hand over: checked, so that nothing of another type reaches the module.
 
 export type Text = string | Uint8Array;
 

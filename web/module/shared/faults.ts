@@ -2,9 +2,9 @@
 import type { Count, Solution } from "../calls/replies.js";
 
 /** A fault as a plain value: `text`, what is wrong; `part`, what the line is called, such as `scramble`, else nothing;
- * `column`, in bytes of UTF-8 from 1, and `character`, the same in characters as JavaScript counts them, both null if
- * it isn't at one place; `step`, which can't begin at the line's cube, null if the line can't be read, and `start`, the
- * step that would have to hold before that one; `line`, of many, from 1, null if there was one. */
+ * `column`, in bytes of UTF-8 from 1, and `character`, the same in Unicode's characters, both null if it isn't at one
+ * place; `step`, which can't begin at the line's cube, null if the line can't be read, and `start`, the step that would
+ * have to hold before that one; `line`, of many, from 1, null if there was one. */
 export type FaultParts = {
   text: string;
   part: string;

@@ -43,11 +43,7 @@ export function struct<Name extends string>(fields: Record<Name, Size>): Struct<
 }
 
 function putNumber(bytes: Uint8Array, at: number, width: number, number: number) {
-  let rest = number;
-  for (let place = at; place < at + width; place += 1) {
-    bytes[place] = rest % 256;
-    rest = (rest - (rest % 256)) / 256;
-  }
+  for (let nth = 0; nth < width; nth += 1) bytes[at + nth] = Math.floor(number / 256 ** nth) % 256;
 }
 
 export function structOf<Name extends string>({ bytes, at, width }: Struct<Name>, numbers: Record<Name, number>) {

@@ -94,8 +94,7 @@ class CheckReader {
   }
 }
 
-/** What is said of each attempt of a text, which has at least one, or of known scrambles: one for each, and then what
- * can't be seen to be of one. */
+/** What is said of each attempt of a text, at least one, or of each known scramble, and then of what may be of any. */
 export function attemptChecksIn(told: CheckedText, { text, scrambles }: RequestOf<"checkAttempts">): AttemptCheck[] {
   const { checks } = told;
   const reader = new CheckReader(told, text, scrambles);

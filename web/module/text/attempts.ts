@@ -132,8 +132,7 @@ export class AttemptReader {
     return { steps, solution: this.#inOne(steps, lines), note };
   }
 
-  /** @param byte of the text
-   * @returns null beyond it */
+  /** @param byte of the text, null beyond it */
   place(byte: number): TextPlace | null {
     const { bytes, places } = this.written;
     return byte <= bytes.length ? places.of(this.written.unit(byte)) : null;

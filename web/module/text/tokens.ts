@@ -24,7 +24,7 @@ export type FormPlace = {
   forms: readonly Form[];
   /** Where it begins, in bytes of UTF-8 from 1. */
   column: number;
-  /** The same in characters as JavaScript counts them. */
+  /** The same in Unicode's characters. */
   character: number;
 };
 
@@ -88,9 +88,7 @@ const HAS: Record<Form, (item: string) => boolean> = {
 const knownForms = new Map<string, readonly Form[]>();
 
 function formsOf(item: string): readonly Form[] {
-  const known = knownForms.get(item);
-  if (known !== undefined) return known;
-  const forms = Object.freeze(FORMS.filter((form) => HAS[form](item)));
+  const forms = knownForms.get(item) ?? Object.freeze(FORMS.filter((form) => HAS[form](item)));
   knownForms.set(item, forms);
   return forms;
 }

@@ -8,8 +8,8 @@ export type PlainLine = { line: string; places: number[]; leftOut: string[] };
 /** The same in bytes, of which each has its place in those of the text, with the module's bits of what is left out. */
 export type WrittenLine = { bytes: Uint8Array; places: Uint32Array; leftOut: number };
 
-/** Where a fault, a form or a doubt stands in a text: `at` from 0, and its line and the character there, both from 1.
- */
+/** Where something stands in a text: `at` in the string, from 0; its line, and its column there in characters of
+ * Unicode, of which an emoji is one, both from 1. */
 export type TextPlace = { at: number; line: number; column: number };
 
 /** What the module leaves out, by its bits. */
@@ -113,8 +113,7 @@ export class TextPlaces {
   }
 }
 
-/** The unit at which a fault or a form of a plain line stands in the text that it is of. What isn't at a sign of the
- * line is at its end. */
+/** The unit of a fault or a form of a plain line in the text that it is of, whose end it has if it is at no sign. */
 const unitOf = (character: number, { places }: PlainLine) =>
   places[character - 1] ?? (places.length === 0 ? 0 : places[places.length - 1] + 1);
 
@@ -141,8 +140,7 @@ export class WrittenText {
     return (this.#places ??= new TextPlaces(this.#text));
   }
 
-  /** @param byte of the text, or its end
-   * @returns its unit */
+  /** The unit of a byte of the text, or its end. */
   unit(byte: number): number {
     return this.#units === null ? byte : this.#units[byte];
   }

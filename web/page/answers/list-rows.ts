@@ -2,7 +2,6 @@
 import { casesPassed, lineWith, positionAfter, totalsWith } from "./position-after.js";
 import { SIDES, bracketed, facesOnAxisOf, stepNamed, type Part, type Step } from "../shared/offered-steps.js";
 import { mergeTwins, type Entry } from "../shared/twins.js";
-import type { BestStep } from "../../module/shared/ways.js";
 import type { List } from "../state/address.js";
 import type { Nissy } from "../../module/nissy.js";
 
@@ -43,9 +42,8 @@ function tellCases(nissy: Nissy, name: Step, now: string, entries: Entry[]) {
 
 /** The solutions of a step that don't reach it before their last move; `whole`: whether these are all. */
 export function solutionsOf(nissy: Nissy, { step, side, slack }: Omit<List, "isAll">, now: string) {
-  const found: BestStep[] = nissy.solve(step, now, { sides: side, slack, most: MOST_LISTED + 1 });
-  const solutions = found.slice(0, MOST_LISTED).filter((each) => !SIDES.some((own) => endsIdle(each[own])));
-  return { solutions, whole: found.length <= MOST_LISTED };
+  const found = nissy.solve(step, now, { sides: side, slack, most: MOST_LISTED });
+  return { solutions: found.filter((each) => !SIDES.some((own) => endsIdle(each[own]))), whole: !found.more };
 }
 
 export type Asked = { list: List; scramble: string; parts: Part[] };
