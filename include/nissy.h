@@ -23,8 +23,8 @@
 
 /* The version of this header and of the library that it comes with; and as one number, such as 10200 for 1.2.0, for #if. nissy_version
  * returns that of the library that runs. */
-#define NISSY_VERSION "3.1.0"
-#define NISSY_VERSION_NUMBER 30100
+#define NISSY_VERSION "3.2.0"
+#define NISSY_VERSION_NUMBER 30200
 
 #include <stddef.h>
 #include <stdint.h>

@@ -128,7 +128,8 @@ nissy_text_answer nissy_text_lines(const uint8_t *text, size_t text_length, niss
 
 /* A part of a text that has only solutions, of scrambles that are known: what stands under a head, or in a block between blank lines if no line has
  * a head and several scrambles are known. Words may follow a head that has the number of a scramble, as in "Attempt 2: DNF" or, after a blank line,
- * "2. 23 moves", unless another head has it by itself, or there are just as many blocks as scrambles. */
+ * "2. 23 moves", and "Cube 2" and "Solve 2" are heads too, unless another head has it by itself, or there are just as many blocks as scrambles. Right
+ * under a head that stands by itself none with words is looked for. */
 typedef struct nissy_known_part {
     uint64_t scramble;   /* which of the scrambles it is of, from 0, or NISSY_NO_SCRAMBLE */
     uint64_t begin;      /* where its first line begins that isn't blank, in bytes of the text */

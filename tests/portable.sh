@@ -35,6 +35,8 @@ done
 cut() { sed '/the calls of nissy.h/,$d' "$folder/nissy.c" > "$room/cut.c" && says_alone 'unterminated #else' "$room/cut.c" gcc; }
 holds "a file that was cut between two functions isn't compiled" cut
 strict=(-std=c11 -O1 -Wall -Wextra -Wpedantic -Wconversion -Wsign-conversion -Wshadow -Wundef -Wcast-qual -Wstrict-prototypes -Werror)
+# not optimized, which takes half the time: what runs here by itself, and is no compiler of another kind
+plain=("${strict[@]}" -O0)
 made() { # NAME COMPILER WORD..: compiles file and program
     "${@:2}" -Iinclude -c "$folder/nissy.c" -o "$room/$1.o" && "${@:2}" -Iinclude portable/main.c "$room/$1.o" -o "$room/$1"
 }
@@ -48,11 +50,11 @@ passed_before=$passed failed_before=$failed
 passed=0 failed=0
 each "gcc compiles it without a warning" gcc gcc "${strict[@]}"
 each "so does clang" clang clang "${strict[@]}" -Wno-cast-qual
-each "so does musl's compiler" musl musl-gcc "${strict[@]}" -static
+each "so does musl's compiler" musl musl-gcc "${plain[@]}" -static
 each "so does tcc" tcc tcc -std=c11 -Wall -Werror
 each "byte by byte" bytewise gcc "${strict[@]}" -DNISSY_BYTEWISE=1
-each "for Windows" windows x86_64-w64-mingw32-gcc "${strict[@]}"
-each "for 32 bits" i686 i686-linux-gnu-gcc "${strict[@]}" -static
+each "for Windows" windows x86_64-w64-mingw32-gcc "${plain[@]}"
+each "for 32 bits" i686 i686-linux-gnu-gcc "${plain[@]}" -static
 each "for ARM" aarch64 aarch64-linux-gnu-gcc "${strict[@]}" -static
 each "for s390x, of the other byte order" s390x s390x-linux-gnu-gcc "${strict[@]}" -static
 # only lines for the debugger: with all of -g the sanitizers take the compiler twice as long

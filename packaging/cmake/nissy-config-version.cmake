@@ -1,5 +1,5 @@
 # Which versions find_package(nissy VERSION) may take: those of the same first number that aren't older.
-set(PACKAGE_VERSION "3.1.0")
+set(PACKAGE_VERSION "3.2.0")
 string(REGEX MATCH "^[0-9]+" nissy_first "${PACKAGE_VERSION}")
 if(PACKAGE_FIND_VERSION_MAJOR STREQUAL nissy_first AND NOT PACKAGE_FIND_VERSION VERSION_GREATER PACKAGE_VERSION)
     set(PACKAGE_VERSION_COMPATIBLE TRUE)

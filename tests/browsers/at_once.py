@@ -1,7 +1,8 @@
 """What is there before it is asked for, the best of many, and rows that were seen."""
 import re
+import time
 
-from browser import Browser
+from browser import TURN, Browser
 from best import LONGER, ROWS, address_of
 from steps import back
 from tally import Tally
@@ -10,6 +11,8 @@ from ways import ways
 
 CUT = 200
 SHOWN = 168
+# longer than the page waits before it builds tables ahead, in seconds
+LONGER_THAN_REST = 1
 HAS_FOCUS = "return document.activeElement.dataset.key === arguments[0]"
 # keeps what each worker is asked, and the steps that it counted beside a cube
 LISTEN = """window.asked = [];
@@ -42,12 +45,19 @@ STOOD = """const isSelected = getSelection().containsNode(stood[0].querySelector
 
 
 def ahead(tally: Tally, browser: Browser) -> None:
-    """Tables are built while nothing is asked, each once; then a step asks for its counts alone, those of orientations first."""
+    """
+    Tables are built while nothing is asked and the page is seen, each once; then a step asks for its counts alone, those of orientations first.
+    """
     script = browser.before_page(LISTEN)
     browser.open(address_of(LONGER))
     browser.wait_best()
+    time.sleep(LONGER_THAN_REST)
+    counts = "return window.asked.filter((each) => each.startsWith(arguments[0]))"
+    tally.equal("no table is built ahead while the page isn't seen", browser.script(counts, "count dr"), [])
+    browser.script(TURN, True)
     every = "return arguments[0].every((step) => window.asked.includes(`count ${step}`))"
     tally.holds("the tables of each step are built ahead", browser.until(every, list(TITLES)))
+    browser.script(TURN, False)
     browser.act('[data-cell="eorl.normal"]')
     browser.wait_best()
     browser.script("window.asked.length = 0")
@@ -55,7 +65,7 @@ def ahead(tally: Tally, browser: Browser) -> None:
     counted = "return window.asked.filter((each) => each.startsWith('count')).length"
     tally.holds("a step asks for the counts after it", browser.until(f"{counted} >= 4"))
     browser.wait_best()
-    asked = [each for each in browser.script("return window.asked") if each.startswith("count")]
+    asked = browser.script(counts, "count")
     tally.equal(
         "orientations come before reductions",
         asked[:4],

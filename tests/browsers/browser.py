@@ -8,8 +8,11 @@ from chromium import Tab
 from net import letters_of, stickers_of
 from tally import Tally, made_again
 
-# longer continuations are looked for by themselves only while the page is seen: for most of what is tried it isn't, so that rows stay
+# longer continuations are looked for by themselves, and tables built ahead, only while the page is seen: for most of what is tried it isn't, so that
+# rows stay, and the processors are left to what is asked
 UNSEEN = 'Object.defineProperty(Document.prototype, "hidden", { configurable: true, get: () => !window.isSeen });'
+# has it seen or not
+TURN = "window.isSeen = arguments[0]; document.dispatchEvent(new Event('visibilitychange'))"
 # keeps what is said to screen readers, since what is said next takes its place
 ANNOUNCED = """window.announced = [];
     addEventListener("DOMContentLoaded", () => {

@@ -1,5 +1,6 @@
 """Chromium, which selenium drives: one after another, windows that begin with an empty storage and take commands of the browser's own protocol."""
 import json
+import shutil
 from typing import Any
 
 from selenium import webdriver
@@ -39,13 +40,20 @@ HELPERS = """const part = (name) => document.getElementById(name), all = (select
     const seen = (selector) => all(selector).filter((each) => each.checkVisibility());"""
 
 
+# the same engine without the browser's own windows, which nobody sees here, but take a third of the processors
+SHELL = "chromium-headless-shell"
+
+
 def chromium() -> webdriver.Chrome:
     """A browser that is seen nowhere, and tells what its pages ask for."""
     options = webdriver.ChromeOptions()
+    options.binary_location = shutil.which(SHELL) or ""
     for word in WORDS:
         options.add_argument(word)
     options.set_capability("goog:loggingPrefs", {"browser": "ALL", "performance": "ALL"})
     driver = webdriver.Chrome(options=options)
+    # a browser with windows lets a page copy once it is pressed, and has nobody to ask
+    driver.execute_cdp_cmd("Browser.grantPermissions", {"permissions": ["clipboardSanitizedWrite"]})
     driver.set_script_timeout(PATIENCE)
     return driver
 

@@ -5,13 +5,12 @@ import time
 
 from at_once import LISTEN
 from best import ROWS, SCRAMBLE, address_of
-from browser import LAST_STEP_AWAY, PROCESSORS, Browser
+from browser import LAST_STEP_AWAY, PROCESSORS, TURN, Browser
 from searches import FLIPPED
 from tally import Tally
 from wanted import counted
 
 SEEN = "window.isSeen = true;"
-TURN = "window.isSeen = arguments[0]; document.dispatchEvent(new Event('visibilitychange'))"
 NOTE = "document.getElementById('best-note').textContent"
 ENDED = "return document.getElementById('best-stop').disabled"
 KEYS = "return [...document.querySelectorAll('#best-body .take')].map((each) => each.dataset.key)"

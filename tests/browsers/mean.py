@@ -2,8 +2,8 @@
 import random
 
 from attempts import PASTE, chip
-from browser import Browser
-from further import FOUND, TURN
+from browser import TURN, Browser
+from further import FOUND
 from kept import KEPT_SAID
 from phone import tap
 from sheets import Kept, Sheet, chips, desk_text

@@ -1,5 +1,5 @@
 """What the page says of a worker that fails, or that ends without a word, and how it goes on by another one."""
-from browser import BEST, IDLE, Browser
+from browser import BEST, IDLE, TURN, Browser
 from tally import Tally
 
 ADDRESS = "#scramble=R_U_F"
@@ -42,6 +42,8 @@ SCRIPTS = (
 UNREADABLE = "made.forEach((each) => each.dispatchEvent(new MessageEvent('messageerror')))"
 # a worker that has crashed: its page is told nothing
 CRASH = "window.isPatient = false; made.forEach((each) => each.terminate())"
+# one for lines, one for lists, one for moves by hand, and one for the best of each axis
+WORKERS = 6
 NO_WORDS = {"failed": "", "alert": "", "own-fault": ""}
 
 
@@ -93,7 +95,10 @@ def crashes(tally: Tally, browser: Browser) -> None:
     for what, act in acts.items():
         opened(browser, "")
         browser.wait_best()
-        # what is prepared meanwhile has come to its end
+        # while the page is seen it prepares what may be asked, so that each worker is there
+        browser.script(TURN, True)
+        browser.until(f"return made.length >= {WORKERS}")
+        browser.script(TURN, False)
         tally.holds(f"{what}: nothing failed before", not browser.script(FAILED))
         browser.script(CRASH + ";" + act)
         fails(tally, browser, what, SILENCE)

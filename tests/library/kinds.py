@@ -5,6 +5,7 @@ none that is read right may be in doubt. Those of tests/misread.tsv are known to
     tests/library/kinds.py
 """
 import ctypes
+import itertools
 import random
 import re
 import sys
@@ -33,6 +34,8 @@ Group 1 scramble %d|Attempt %d (23 moves)|Attempt %d - 23 moves|Attempt %d, 23 m
 ).split(
     "|"
 )
+# words before each of two solutions of scrambles that are known
+KNOWN = "Attempt %d|Attempt %d: 16 moves|Scramble #%d|%d.|%d) 16|#%d:|Cube %d|CUBE #%d:|Cube %d (16)|Solve %d|Solve %d - 16 moves"
 ENDS = """Final|Total|Full|Result|All|Sol|Answer|Submitted|Together|Summary|Cleaned|L\u00f6sung|Soluci\u00f3n|Rozwi\u0105zanie|\u89e3\u6cd5|Final answer""".split(
     "|"
 )
@@ -109,6 +112,15 @@ def kinds(tally: Tally) -> None:
     by_words = sum(found == "right" for found in verdicts.values()) - of_rows
     tally.holds(f"at least {LEAST_RIGHT} of the table are right: {of_rows}", of_rows >= LEAST_RIGHT)
     tally.holds(f"and {LEAST_RIGHT_BY_WORDS} that words make: {by_words}", by_words >= LEAST_RIGHT_BY_WORDS)
+
+
+def known_heads(tally: Tally) -> None:
+    """A solution is of the known scramble that its head names, also if the other one's head has another form."""
+    for first, second in itertools.permutations(KNOWN.split("|"), 2):
+        text = f"{first % 1}\n{OF_FIRST}\n\n{second % 2}\n{OF_SECOND}"
+        checks = nissy.check_attempts(text, scrambles=[FIRST, SECOND])
+        told = [(it.check is not None and it.check.solved, it.doubt) for it in checks]
+        tally.equal(f"the solutions of {text!r}", told, [(True, None)] * 2)
 
 
 def misread(tally: Tally) -> None:
@@ -319,4 +331,4 @@ def times(tally: Tally) -> None:
 
 
 if __name__ == "__main__":
-    tried(kinds, misread, readings, slips, doubts, calls, times)
+    tried(kinds, known_heads, misread, readings, slips, doubts, calls, times)

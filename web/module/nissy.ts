@@ -26,7 +26,7 @@ export { NET, stickersOf } from "./shared/stickers.js";
 export { placeOf } from "./text/written.js";
 
 /** The version of the scripts, and of the module that comes with them. */
-export const VERSION = "3.1.0";
+export const VERSION = "3.2.0";
 
 /** The engine, loaded. After a call that broke off the next one starts the module anew, or throws `EngineMissing`. */
 export class Nissy {

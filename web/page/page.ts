@@ -253,7 +253,7 @@ export class Page {
     const steps = Array.isArray(offers) ? offers : await offers;
     if (turn !== this.#turn) return;
     this.#showOffers(shown, steps);
-    this.#readiness.begin(shown.reached, part("choices").hidden);
+    this.#readiness.begin({ reached: shown.reached, isBare: part("choices").hidden });
     await this.#showAnswered(turn, shown, isWhole && stays);
   }
 

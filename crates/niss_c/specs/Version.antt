@@ -2,4 +2,4 @@
 use Rattle.std.specs.Prelude.{ℕ}
 
 abbrev pub version : ℕ
-version = 30100
+version = 30200

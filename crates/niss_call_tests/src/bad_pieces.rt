@@ -1,7 +1,7 @@
 //! Bad pieces of a cube, with their places, and what it has reached: numbers worked out by hand from what a turn moves.
 use crate::cubes::cube_after;
 use niss_cube::Coordinate::{self, Flip, Slice, Twist};
-use niss_cube::{Axis, Cube, Step};
+use niss_cube::{Axis, Step};
 
 /// The edges UF, DF, FR and FL, at the places 1, 5, 8 and 9.
 const EDGES: u16 = 0b11_0010_0010;
@@ -29,13 +29,18 @@ fn a_turn_has_its_bad_pieces(rt: HostRuntime) {
     }
 }
 
-/// F disorients edges on the axis of F and B alone, and keeps what a domino reduction to F and B keeps besides: the steps 1, 2,
-/// 6, 8, 9, 11 and 12.
-const REACHED_AFTER_F: u16 = 0b1_1011_0100_0110;
+/// Moves, the steps that are reached after them, by their bits, and whether the cube is solved. F disorients edges on the axis of F
+/// and B alone, and keeps what a domino reduction to F and B keeps besides: the steps 1, 2, 6, 8, 9, 11 and 12.
+const REACHED: &[(&str, u16, bool)] = &[
+    ("F", 0b1_1011_0100_0110, false),
+    ("F F2 F", 0b1_1111_1111_1111, true),
+];
 
 #[test]
 fn what_a_cube_has_reached(rt: HostRuntime) {
-    assert!(rt; Step::all_reached(&cube_after(&rt, "F")) == REACHED_AFTER_F);
-    assert!(rt; Cube::solved().is_solved() && !cube_after(&rt, "F").is_solved());
-    assert!(rt; cube_after(&rt, "F F2 F").is_solved());
+    for (moves, steps, is_solved) in REACHED {
+        let cube = cube_after(&rt, moves);
+        assert!(rt; Step::all_reached(&cube) == *steps, "{moves}");
+        assert!(rt; cube.is_solved() == *is_solved, "{moves}");
+    }
 }

@@ -1,32 +1,9 @@
 //! Coordinates of cubes, and the tables that turn them.
-use crate::cubes::{cube_after, quarter};
+use crate::cubes::{F, R, cube_after};
 use niss_cube::Coordinate::{self, Flip, Slice, Twist};
-use niss_cube::{Axis, Cube, Face, OutOfMemory, TurnTables};
+use niss_cube::{Axis, Cube, TurnTables};
 use std::alloc::Allocator;
 use std::process::Abort;
-
-fn check_equal(rt: &impl Abort, coordinate: Coordinate, other: Coordinate) {
-    let same_count = coordinate.count() == other.count();
-    assert!(rt; (coordinate == other) == same_count);
-}
-
-// Each has another count.
-#[test]
-fn coordinates_are_equal_to_themselves_alone(rt: HostRuntime) {
-    for pair in &[
-        (Flip, Flip),
-        (Flip, Twist),
-        (Flip, Slice),
-        (Twist, Flip),
-        (Twist, Twist),
-        (Twist, Slice),
-        (Slice, Flip),
-        (Slice, Twist),
-        (Slice, Slice),
-    ] {
-        check_equal(&rt, pair.0, pair.1);
-    }
-}
 
 /// A number of the solved cube after some moves.
 type Row = (&'static str, Axis, Coordinate, u16);
@@ -74,39 +51,24 @@ fn number_of(cube: &Cube, axis: Axis, coordinate: Coordinate) -> u16 {
     }
 }
 
-fn check_number(rt: &impl Abort, row: &Row) {
-    let (moves, axis, coordinate, wanted) = *row;
-    let cube = cube_after(rt, moves);
-    assert!(rt; number_of(&cube, axis, coordinate) == wanted, "{moves}");
-}
-
 #[test]
 fn cubes_have_their_numbers(rt: HostRuntime) {
-    for row in NUMBERS {
-        check_number(&rt, row);
+    for (moves, axis, coordinate, wanted) in NUMBERS {
+        let cube = cube_after(&rt, moves);
+        assert!(rt; number_of(&cube, *axis, *coordinate) == *wanted, "{moves}");
     }
 }
 
 /// Turns the numbers of the solved cube.
-fn check_numbers<A: Allocator>(rt: &impl Abort, tables: &TurnTables<A>) {
-    let front = quarter(Face::F);
-    let right = quarter(Face::R);
-    assert!(rt; tables.next_flip(Axis::Fb, 0, front) == 550);
-    assert!(rt; tables.next_twist(Axis::Ud, 0, right) == 1494);
-    assert!(rt; tables.next_slice(Axis::Ud, 0, front) == 33);
-}
-
-/// Turns the numbers of the solved cube by tables that were to be built.
-pub fn check_tables<A: Allocator>(rt: &impl Abort, built: &Result<TurnTables<A>, OutOfMemory>) {
-    match built {
-        Ok(tables) => check_numbers(rt, tables),
-        Err(_) => panic!(rt; "no memory for tables"),
-    }
+pub fn check_numbers<A: Allocator>(rt: &impl Abort, tables: &TurnTables<A>) {
+    assert!(rt; tables.next_flip(Axis::Fb, 0, F) == 550);
+    assert!(rt; tables.next_twist(Axis::Ud, 0, R) == 1494);
+    assert!(rt; tables.next_slice(Axis::Ud, 0, F) == 33);
 }
 
 #[test]
 fn tables_turn_the_solved_cube(rt: HostRuntime) {
-    let built = TurnTables::build(rt.alloc());
-    check_tables(&rt, &built);
-    drop(built);
+    let tables = TurnTables::build(rt.alloc()).expect(&rt, "tables");
+    check_numbers(&rt, &tables);
+    drop(tables);
 }

@@ -3,12 +3,25 @@ use niss_cube::{Cube, Face, Power, Turn};
 use niss_moves::{read, to_faces};
 use std::process::Abort;
 
-pub fn quarter(face: Face) -> Turn {
-    Turn {
-        face,
-        power: Power::Quarter,
-    }
-}
+pub const U: Turn = Turn {
+    face: Face::U,
+    power: Power::Quarter,
+};
+
+pub const D: Turn = Turn {
+    face: Face::D,
+    power: Power::Quarter,
+};
+
+pub const R: Turn = Turn {
+    face: Face::R,
+    power: Power::Quarter,
+};
+
+pub const F: Turn = Turn {
+    face: Face::F,
+    power: Power::Quarter,
+};
 
 /// The solved cube after face turns.
 pub fn cube_after(rt: &impl Abort, moves: &str) -> Cube {
@@ -25,7 +38,7 @@ pub fn cube_after(rt: &impl Abort, moves: &str) -> Cube {
 fn right_and_up_have_order_105(rt: HostRuntime) {
     let mut cube = Cube::solved();
     for count in 1..=105usize {
-        cube.apply(&[quarter(Face::R), quarter(Face::U)]);
+        cube.apply(&[R, U]);
         let is_solved = cube == Cube::solved();
         assert!(rt; is_solved == (count == 105), "after {count} times");
     }

@@ -1,6 +1,7 @@
 //! The examples of the crates' first pages, as they stand there: a script compares the two line by line.
 ghost use Rattle.std.specs.Prelude.{◌≤◌, length};
 
+use crate::checks::check_bytes;
 use niss_cube::{Axis, Cube, OutOfMemory, Step, TurnTables};
 use niss_moves::{
     Face, LineText, Power, ReadFault, Rotation, Turn, put_niss_clean, put_tokens, read, to_faces,
@@ -31,10 +32,10 @@ fn cleaned(bytes: &[u8]) -> Result<LineText, ReadFault>
 #[test]
 fn lines_are_joined_and_cleaned(rt: HostRuntime) {
     let text = joined(b"R (U F') D").expect(&rt, "a line");
-    assert_eq!(rt; text.as_slice(), b"R D F U'".as_slice());
+    check_bytes(&rt, text.as_slice(), b"R D F U'");
     let text = cleaned(b"Rw U").expect(&rt, "a line");
-    assert_eq!(rt; text.as_slice(), b"L F x".as_slice());
-    assert!(rt; joined(b"R '") == Err(ReadFault::NotAMove { column: 3 }));
+    check_bytes(&rt, text.as_slice(), b"L F x");
+    assert!(&rt; joined(b"R '").err() == Some(ReadFault::NotAMove { column: 3 }));
 }
 
 fn cube_of(bytes: &[u8]) -> Result<Cube, ReadFault>
@@ -64,16 +65,13 @@ fn same_number(alloc: Global) -> Result<bool, OutOfMemory> {
 fn lines_give_cubes_and_numbers(rt: HostRuntime) {
     let cube = cube_of(b"x U").expect(&rt, "a line");
     let text = cube.facelets(Rotation::IDENTITY);
-    assert_eq!(rt;
-        text.as_slice(),
-        b"UUUUUULLLURRURRURRFFFFFFFFFRRRDDDDDDLLDLLDLLDBBBBBBBBB".as_slice()
-    );
+    let letters = b"UUUUUULLLURRURRURRFFFFFFFFFRRRDDDDDDLLDLLDLLDBBBBBBBBB";
+    check_bytes(&rt, text.as_slice(), letters);
     let number = cube.flip(Axis::Fb);
-    assert_eq!(rt; number, 550);
     let reached = Step::Eofb.reached(&cube);
     let may_start = Step::DrudEofb.may_start(&cube);
-    assert!(rt; !reached && !may_start);
-    assert!(rt; same_number(rt.alloc()).expect(&rt, "tables"));
+    assert!(&rt; number == 550 && !reached && !may_start);
+    assert!(&rt; same_number(rt.alloc()) == Ok(true));
 }
 
 #[test]
@@ -82,5 +80,5 @@ fn a_seed_gives_its_turns(rt: HostRuntime) {
     let scramble = random_turns(&mut rng, 6);
     let mut text = LineText::new();
     niss_moves::put_faces(&scramble, &mut text);
-    assert_eq!(rt; text.as_slice(), b"L' D' F' R2 F' L'".as_slice());
+    check_bytes(&rt, text.as_slice(), b"L' D' F' R2 F' L'");
 }

@@ -3,7 +3,6 @@ use crate::path_sinks::All;
 use crate::searches::{Search, tables_of};
 use niss_cube::Step;
 use niss_search::{Meter, Outcome, Tables};
-use std::alloc::Global;
 use std::process::Abort;
 
 /// How many shortest solutions a cube has, and how many looks find them.
@@ -105,27 +104,17 @@ impl Far {
             slack,
         };
         let (answer, looks) = search.run(rt, tables, &mut All);
-        let Ok(outcome) = answer else {
-            panic!(rt; "{} is refused", self.moves)
-        };
-        (outcome, looks)
+        (answer.expect(rt, self.moves), looks)
     }
 
     /// With a turn less there is no solution, and each deepening looks once.
     fn check(&self, rt: &impl Abort, tables: &Tables, least: u8) {
         let (found, looks) = self.search(rt, tables, 20, 0);
-        assert!(rt;
-            found.length == Some(least) && found.solutions == self.solutions,
-            "{}",
-            self.moves
-        );
-        assert!(rt; looks == self.looks, "{}", self.moves);
+        let is_least = found.length == Some(least) && found.solutions == self.solutions;
+        assert!(rt; is_least && looks == self.looks, "{}", self.moves);
         let (found, looks) = self.search(rt, tables, least.saturating_sub(1), 0);
-        assert!(rt;
-            found.length.is_none() && looks == u128::from(least),
-            "{}",
-            self.moves
-        );
+        let is_none = found.length.is_none() && looks == u128::from(least);
+        assert!(rt; is_none, "{}", self.moves);
         if let Some(near) = self.near {
             let (found, _looks) = self.search(rt, tables, 20, 1);
             assert!(rt; found.solutions == near, "{}", self.moves);
@@ -133,17 +122,13 @@ impl Far {
     }
 }
 
-fn check_row(rt: &impl Abort, alloc: Global, row: &Row) {
-    let tables = tables_of(rt, alloc, row.0, &mut Meter::new());
-    for far in row.2 {
-        far.check(rt, &tables, row.1);
-    }
-    drop(tables);
-}
-
 #[test]
 fn the_farthest_cubes_are_solved(rt: HostRuntime) {
-    for row in ROWS {
-        check_row(&rt, rt.alloc(), row);
+    for (step, least, cubes) in ROWS {
+        let tables = tables_of(&rt, rt.alloc(), *step, &mut Meter::new());
+        for far in *cubes {
+            far.check(&rt, &tables, *least);
+        }
+        drop(tables);
     }
 }

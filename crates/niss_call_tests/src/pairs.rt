@@ -4,10 +4,10 @@ ghost use Rattle.std.specs.Prelude.{IsTrue};
 ghost use Rattle.niss_cube.specs.Map.{map_of};
 ghost use Rattle.niss_cube.specs.Steps.{may_start};
 
-use crate::cubes::{cube_after, quarter};
+use crate::cubes::{F, cube_after};
 use crate::path_sinks::{PairComparison, Refused};
-use crate::searches::{Search, tables_of};
-use niss_cube::{Cube, Face, Step};
+use crate::searches::tables_of;
+use niss_cube::{Cube, Step};
 use niss_search::{
     Ends, Lengths, Limit, Meter, Outcome, PairsWanted, Sides, StepFrom, Stopped, Tables,
     search_both_within, search_pairs_of_length,
@@ -29,73 +29,37 @@ const ENOUGH: u128 = 1_000_000;
 /// A pair: its turns on the normal side, and those on the inverse.
 type Written = (&'static str, &'static str);
 
-/// A search over both sides within so many looks, the pairs that its sink takes before it refuses one, what it returns, and how
-/// often it looks.
-#[derive(Clone, Copy)]
-struct Row {
-    search: Search,
-    bound: u128,
-    pairs: &'static [Written],
-    answer: Result<Outcome, Stopped<Refused>>,
-    looks: u128,
-}
+/// Moves, how many turns at most and how many more than the least, and within how many looks; the pairs that the sink takes
+/// before it refuses one, the least length or why the search ends, and the looks.
+type Row = (
+    (&'static str, u8, u8),
+    u128,
+    &'static [Written],
+    Result<Option<u8>, Stopped<Refused>>,
+    u128,
+);
 
-impl Row {
-    fn check(self, rt: &impl Abort, tables: &Tables) {
-        let cube = start(rt, tables, self.search.moves);
-        let lengths = Lengths {
-            limit: Limit::new(self.search.limit).expect(rt, "a limit"),
-            slack: Limit::new(self.search.slack).expect(rt, "a slack"),
-        };
-        let mut meter = Meter::new();
-        let mut sink = PairComparison::new(self.pairs);
-        let from = StepFrom {
-            tables,
-            cube: &cube,
-        };
-        let answer = search_both_within(&from, lengths, &mut meter, &mut sink, self.bound);
-        assert!(rt; sink.took_all(), "{}", self.search.moves);
-        assert!(rt; answer == self.answer, "{}", self.search.moves);
-        assert!(rt; meter.count() == self.looks, "{}", self.search.moves);
-    }
-}
-
-/// Moves, how many turns at most and how many more than the least; the pairs, which are all taken, the least length, and the
-/// looks.
-type FoundRow = (&'static str, u8, u8, &'static [Written], Option<u8>, u128);
-
-fn found(row: &FoundRow) -> Row {
-    let (moves, limit, slack, pairs, length, looks) = *row;
+fn check_row(rt: &impl Abort, tables: &Tables, row: &Row) {
+    let ((moves, limit, slack), bound, pairs, wanted, looks) = *row;
+    let cube = start(rt, tables, moves);
+    let lengths = Lengths {
+        limit: Limit::new(limit).expect(rt, "a limit"),
+        slack: Limit::new(slack).expect(rt, "a slack"),
+    };
+    let mut meter = Meter::new();
+    let mut sink = PairComparison::new(pairs);
+    let from = StepFrom {
+        tables,
+        cube: &cube,
+    };
+    let answer = search_both_within(&from, lengths, &mut meter, &mut sink, bound);
     let solutions = pairs.len() as u128;
-    Row {
-        search: Search {
-            moves,
-            limit,
-            slack,
-        },
-        bound: ENOUGH,
-        pairs,
-        answer: Ok(Outcome { length, solutions }),
-        looks,
-    }
-}
-
-/// Of a search after F that ends before it is done: the bound, the pairs, why it ends, and the looks.
-type EndedRow = (u128, &'static [Written], Stopped<Refused>, u128);
-
-fn ended(row: &EndedRow) -> Row {
-    let (bound, pairs, stop, looks) = *row;
-    Row {
-        search: Search {
-            moves: "F",
-            limit: 20,
-            slack: 0,
-        },
-        bound,
-        pairs,
-        answer: Err(stop),
-        looks,
-    }
+    let wanted = match wanted {
+        Ok(length) => Ok(Outcome { length, solutions }),
+        Err(stop) => Err(stop),
+    };
+    assert!(rt; answer == wanted, "{moves}");
+    assert!(rt; sink.took_all() && meter.count() == looks, "{moves}");
 }
 
 const AFTER_F: &[(&str, &str)] = &[("", "F"), ("", "F'"), ("F", ""), ("F'", "")];
@@ -137,52 +101,62 @@ const AND_A_TURN_MORE: &[(&str, &str)] = &[
 /// Those of no or one turn more than the least: F U, a solution with a turn more, has F as its first turn, which reaches the
 /// step, so it is none of them. Up to one turn no pair reaches the step after F R U B, which needs four turns on one side alone,
 /// and two over both: each side makes one look with no turn, and one with a turn on the other.
-const IN_ORDER: &[FoundRow] = &[
-    ("", 20, 0, &[("", "")], Some(0), 1),
-    ("F", 20, 0, AFTER_F, Some(1), 39),
-    ("F B", 20, 0, AFTER_F_B, Some(2), 225),
-    ("F R U B", 20, 0, AFTER_F_R_U_B, Some(2), 45),
-    ("F", 20, 1, AFTER_F, Some(1), 231),
-    ("F R U B", 20, 1, AND_A_TURN_MORE, Some(2), 343),
-    ("F R U B", 1, 3, &[], None, 3),
+const IN_ORDER: &[Row] = &[
+    (("", 20, 0), ENOUGH, &[("", "")], Ok(Some(0)), 1),
+    (("F", 20, 0), ENOUGH, AFTER_F, Ok(Some(1)), 39),
+    (("F B", 20, 0), ENOUGH, AFTER_F_B, Ok(Some(2)), 225),
+    (("F R U B", 20, 0), ENOUGH, AFTER_F_R_U_B, Ok(Some(2)), 45),
+    (("F", 20, 1), ENOUGH, AFTER_F, Ok(Some(1)), 231),
+    (
+        ("F R U B", 20, 1),
+        ENOUGH,
+        AND_A_TURN_MORE,
+        Ok(Some(2)),
+        343,
+    ),
+    (("F R U B", 1, 3), ENOUGH, &[], Ok(None), 3),
 ];
 
 /// After F: the look with no turn; on the inverse the one at the root, 13 to F and 2 more to F', and 3 after it; on the normal
 /// side the one at the root, and 18 that follow at once, which pass a bound of 38.
-const ENDED: &[EndedRow] = &[
-    (38, &[("", "F"), ("", "F'")], Stopped::Cut, 21),
-    (0, &[], Stopped::Cut, 0),
-    (ENOUGH, &[], Stopped::Refused(Refused), 15),
-    (ENOUGH, &[("", "F")], Stopped::Refused(Refused), 17),
+const ENDED: &[Row] = &[
+    (
+        ("F", 20, 0),
+        38,
+        &[("", "F"), ("", "F'")],
+        Err(Stopped::Cut),
+        21,
+    ),
+    (("F", 20, 0), 0, &[], Err(Stopped::Cut), 0),
+    (
+        ("F", 20, 0),
+        ENOUGH,
+        &[],
+        Err(Stopped::Refused(Refused)),
+        15,
+    ),
+    (
+        ("F", 20, 0),
+        ENOUGH,
+        &[("", "F")],
+        Err(Stopped::Refused(Refused)),
+        17,
+    ),
 ];
 
-/// All pairs come in order, or a search ends early.
-#[test]
-fn pairs_come_in_order_until_a_search_ends(rt: HostRuntime) {
-    let tables = tables_of(&rt, rt.alloc(), Step::Eofb, &mut Meter::new());
-    for row in IN_ORDER {
-        found(row).check(&rt, &tables);
-    }
-    for row in ENDED {
-        ended(row).check(&rt, &tables);
-    }
-    drop(tables);
-}
-
 /// R and L turn the corners of this reduction.
-const AFTER_R_U_R: FoundRow = (
-    "R U R",
-    20,
-    0,
+const AFTER_R_U_R: Row = (
+    ("R U R", 20, 0),
+    ENOUGH,
     &[("R", "R"), ("R", "R'"), ("R'", "R"), ("R'", "R'")],
-    Some(2),
+    Ok(Some(2)),
     37,
 );
 
 #[test]
 fn a_reduction_has_pairs(rt: HostRuntime) {
     let tables = tables_of(&rt, rt.alloc(), Step::DrudEofb, &mut Meter::new());
-    found(&AFTER_R_U_R).check(&rt, &tables);
+    check_row(&rt, &tables, &AFTER_R_U_R);
     drop(tables);
 }
 
@@ -221,14 +195,17 @@ fn check_length(rt: &impl Abort, tables: &Tables, row: &LengthRow) {
         cube: &cube,
     };
     let answer = search_pairs_of_length(&from, wanted, &mut meter, &mut sink, ENOUGH);
-    assert!(rt; sink.took_all(), "{turns}");
     assert!(rt; answer == Ok(pairs.len() as u128), "{turns}");
-    assert!(rt; meter.count() == looks, "{turns}");
+    assert!(rt; sink.took_all() && meter.count() == looks, "{turns}");
 }
 
+/// All pairs come in order, or a search ends early; and those of one length.
 #[test]
-fn pairs_have_a_length_and_sides(rt: HostRuntime) {
+fn pairs_come_in_order_until_a_search_ends(rt: HostRuntime) {
     let tables = tables_of(&rt, rt.alloc(), Step::Eofb, &mut Meter::new());
+    for row in IN_ORDER.iter().chain(ENDED) {
+        check_row(&rt, &tables, row);
+    }
     for row in LENGTHS {
         check_length(&rt, &tables, row);
     }
@@ -240,7 +217,7 @@ fn pairs_have_a_length_and_sides(rt: HostRuntime) {
 fn cubes_have_an_inverse_side(rt: HostRuntime) {
     let mut cube = cube_after(&rt, "R U2 L'");
     assert!(rt; cube.inverse() == cube_after(&rt, "L U2 R'"));
-    cube.turn_before(quarter(Face::F));
+    cube.turn_before(F);
     assert!(rt; cube == cube_after(&rt, "F R U2 L'"));
     assert!(rt; cube.inverse() == cube_after(&rt, "L U2 R' F'"));
 }

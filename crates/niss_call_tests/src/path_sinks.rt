@@ -44,9 +44,7 @@ impl Sink for Comparison<'_> {
         let Some(wanted) = self.wanted.get(self.taken) else {
             return Err(Refused);
         };
-        let mut text = LineText::new();
-        put_faces(path.turns(), &mut text);
-        let is_wanted = wanted.as_bytes() == text.as_slice();
+        let is_wanted = is_written(path, wanted);
         self.is_same = self.is_same && is_wanted;
         self.taken += 1;
         Ok(())
@@ -107,20 +105,9 @@ fn is_written(path: &TurnPath, wanted: &str) -> bool {
 /// Compares at each path what a heap has given with what it had given before the search.
 #[derive(Drop)]
 pub struct HeapWatch<'a> {
-    heap: &'a LocalHeap,
-    used: usize,
+    pub heap: &'a LocalHeap,
+    pub used: usize,
     pub is_same: bool,
-}
-
-impl<'a> HeapWatch<'a> {
-    /// The search hasn't begun.
-    pub fn new(heap: &'a LocalHeap) -> HeapWatch<'a> {
-        HeapWatch {
-            heap,
-            used: heap.used(),
-            is_same: true,
-        }
-    }
 }
 
 impl Sink for HeapWatch<'_> {

@@ -1,7 +1,4 @@
 //! Lines that are read: which bytes are one, and the fault of those that are none.
-ghost use Rattle.std.specs.Prelude.{◌≤◌, length};
-
-use crate::checks::check_count;
 use niss_moves::{LineReader, ReadFault, read};
 use std::process::Abort;
 
@@ -22,57 +19,40 @@ fn a_reader_keeps_its_fault(rt: HostRuntime) {
     check_found(&rt, 4, reader.finish().err(), Some(unopened));
 }
 
-/// Checks that a line has this fault.
-fn check_fault(rt: &impl Abort, line: &[u8], fault: ReadFault)
-    requires { length line.now ≤ 16_777_216 }
-{
-    check_found(rt, line.len(), read(line).err(), Some(fault));
-}
+const FAULTS: &[(&[u8], ReadFault)] = &[
+    (b"R Q", ReadFault::NotAMove { column: 3 }),
+    (b"R (U (", ReadFault::Nested { column: 6 }),
+    (b"R)", ReadFault::Unopened { column: 2 }),
+    (b"(R) (U", ReadFault::Unclosed { column: 5 }),
+    (&[b'R'; 257], ReadFault::TooLong { column: 257 }),
+];
 
 #[test]
 fn each_fault_has_its_column(rt: HostRuntime) {
-    check_fault(&rt, b"R Q", ReadFault::NotAMove { column: 3 });
-    check_fault(&rt, b"R (U (", ReadFault::Nested { column: 6 });
-    check_fault(&rt, b"R)", ReadFault::Unopened { column: 2 });
-    check_fault(&rt, b"(R) (U", ReadFault::Unclosed { column: 5 });
-    check_fault(&rt, &[b'R'; 257], ReadFault::TooLong { column: 257 });
+    for (line, fault) in FAULTS {
+        assert!(rt; line.len() <= 257);
+        check_found(&rt, line.len(), read(line).err(), Some(*fault));
+    }
 }
 
-/// The fault of a line of this byte alone, if it is no line.
-fn fault_of_byte(byte: u8) -> ReadFault {
+/// The bytes that are a line by themselves: a face, a wide turn, a slice turn, a rotation, a blank.
+const LINES: &[u8; 21] = b"UDRLFBudrlfbMESxyz \t\r";
+
+/// The fault of a line of this byte alone, if it is no line: of 233 bytes it is that they are no move.
+fn fault_of_byte(byte: u8) -> Option<ReadFault> {
     match byte {
-        b'(' => ReadFault::Unclosed { column: 1 },
-        b')' => ReadFault::Unopened { column: 1 },
-        _ => ReadFault::NotAMove { column: 1 },
+        b'(' => Some(ReadFault::Unclosed { column: 1 }),
+        b')' => Some(ReadFault::Unopened { column: 1 }),
+        _ if LINES.contains(&byte) => None,
+        _ => Some(ReadFault::NotAMove { column: 1 }),
     }
 }
 
 #[test]
 fn single_bytes_are_read(rt: HostRuntime) {
-    let mut lines = 0usize;
-    let mut no_moves = 0usize;
     for byte in 0..=255u8 {
-        let Err(fault) = read(&[byte]) else {
-            lines = lines.saturating_add(1);
-            continue;
-        };
-        let wanted = fault_of_byte(byte);
-        check_found(&rt, usize::from(byte), Some(fault), Some(wanted));
-        let is_no_move = wanted == ReadFault::NotAMove { column: 1 };
-        no_moves = no_moves.saturating_add(usize::from(is_no_move));
-    }
-    check_count(&rt, "bytes that are a line", lines, 21);
-    check_count(&rt, "bytes that are no move", no_moves, 233);
-}
-
-/// The bytes that are a line by themselves: a face, a wide turn, a slice turn, a rotation, a blank.
-const LINES: &[u8] = b"UDRLFBudrlfbMESxyz \t\r";
-
-#[test]
-fn a_letter_or_a_blank_is_a_line(rt: HostRuntime) {
-    check_count(&rt, "bytes that are a line", LINES.len(), 21);
-    for byte in LINES {
-        check_found(&rt, usize::from(*byte), read(&[*byte]).err(), None);
+        let found = read(&[byte]).err();
+        check_found(&rt, usize::from(byte), found, fault_of_byte(byte));
     }
 }
 

@@ -22,7 +22,7 @@ pub fn tables_of(rt: &impl Abort, alloc: Global, step: Step, meter: &mut Meter) 
 }
 
 /// The position of the solved cube after some moves, on which the step of the tables may start.
-fn position_after<A: Allocator>(rt: &impl Abort, tables: &Tables<A>, moves: &str) -> Position
+pub fn position_after<A: Allocator>(rt: &impl Abort, tables: &Tables<A>, moves: &str) -> Position
     ensures { IsPosition tables.now result }
 {
     let cube = cube_after(rt, moves);
@@ -42,7 +42,7 @@ impl Search {
     /// Searches, and returns the looks at positions too. The path that the search goes along is left empty, with its
     /// limit.
     pub fn run<K: Sink, A: Allocator>(
-        self,
+        &self,
         rt: &impl Abort,
         tables: &Tables<A>,
         sink: &mut K,
@@ -67,42 +67,33 @@ type Row = (
 );
 
 fn check_row(rt: &impl Abort, tables: &Tables, row: &Row) {
-    let (search, paths, length, wanted_looks) = *row;
-    let solutions = paths.len() as u128;
-    let wanted = length.map(|length| Outcome { length, solutions });
+    let (search, paths, length, looks) = row;
     let mut sink = Comparison::new(paths);
-    let (answer, looks) = search.run(rt, tables, &mut sink);
-    assert!(rt; sink.took_all(), "{}", search.moves);
+    let (answer, looked) = search.run(rt, tables, &mut sink);
+    let solutions = paths.len() as u128;
+    let wanted = match *length {
+        Ok(length) => Ok(Outcome { length, solutions }),
+        Err(Refused) => Err(Refused),
+    };
     assert!(rt; answer == wanted, "{}", search.moves);
-    assert!(rt; looks == wanted_looks, "{}", search.moves);
+    assert!(rt; sink.took_all() && looked == *looks, "{}", search.moves);
 }
 
 /// Moves, and how far the solved cube is from the goal after them.
 const DISTANCES: &[(&str, u8)] = &[("", 0), ("R", 1), ("R U", 2)];
 
 /// Each look ticks once.
-fn check_distances(rt: &impl Abort, tables: &Tables) {
-    let mut meter = Meter::new();
-    for (moves, distance) in DISTANCES {
-        let position = position_after(rt, tables, moves);
-        assert!(rt; meter.count() < 3);
-        assert!(rt; tables.look(&position, &mut meter) == *distance, "{moves}");
-    }
-    assert!(rt; meter.count() == 3);
-}
-
 #[test]
 fn looks_give_distances(rt: HostRuntime) {
     let tables = tables_of(&rt, rt.alloc(), Step::DrudEofb, &mut Meter::new());
-    check_distances(&rt, &tables);
-    drop(tables);
-}
-
-/// Checks how many turns are tried from the entries of a step's tables while these are filled.
-fn check_fill(rt: &impl Abort, alloc: Global, step: Step, ticks: u128) {
     let mut meter = Meter::new();
-    drop(tables_of(rt, alloc, step, &mut meter));
-    assert!(rt; meter.count() == ticks, "{}", step.name());
+    for (moves, distance) in DISTANCES {
+        let position = position_after(&rt, &tables, moves);
+        assert!(&rt; meter.count() < 3);
+        assert!(&rt; tables.look(&position, &mut meter) == *distance, "{moves}");
+    }
+    assert!(&rt; meter.count() == 3);
+    drop(tables);
 }
 
 /// A table for each alternative is filled, each with 18 turns from each of 2,048 entries, or 14 from each of 1,082,565.
@@ -117,21 +108,13 @@ const FILLS: &[(Step, u128)] = &[
     (Step::DrEoud, 30_311_820),
 ];
 
+/// Checks how many turns are tried from the entries of a step's tables while these are filled.
 #[test]
 fn a_fill_counts_each_turn_it_tries(rt: HostRuntime) {
-    for fill in FILLS {
-        check_fill(&rt, rt.alloc(), fill.0, fill.1);
-    }
-}
-
-/// With a meter that stands above 0 tables are built too, which no clause can say: a build may be refused memory at any time.
-#[test]
-fn tables_are_built_with_a_meter_above_0(rt: HostRuntime) {
-    let mut meter = Meter::new();
-    for ticks in &[36_864u128, 73_728, 110_592] {
-        assert!(rt; meter.count() < 110_592);
-        drop(tables_of(&rt, rt.alloc(), Step::Eofb, &mut meter));
-        assert!(rt; meter.count() == *ticks);
+    for (step, ticks) in FILLS {
+        let mut meter = Meter::new();
+        drop(tables_of(&rt, rt.alloc(), *step, &mut meter));
+        assert!(&rt; meter.count() == *ticks, "{}", step.name());
     }
 }
 
@@ -183,41 +166,50 @@ const ROWS: &[Row] = &[
     (TOO_FEW_TURNS, &[], Ok(None), 4),
 ];
 
+/// Of a search from the cube after F: within how many looks, the paths, what it returns, and the looks.
+type Within = (
+    u128,
+    &'static [&'static str],
+    Result<Outcome, Stopped<Refused>>,
+    u128,
+);
+
+/// One look in each of the deepenings to 0 and 1, and 18 more that find F and F': a bound of 19 cuts the search before these.
+const BOUNDS: &[Within] = &[
+    (
+        20,
+        &["F", "F'"],
+        Ok(Outcome {
+            length: Some(1),
+            solutions: 2,
+        }),
+        20,
+    ),
+    (19, &[], Err(Stopped::Cut), 2),
+];
+
+fn check_within(rt: &impl Abort, tables: &Tables, row: &Within) {
+    let (bound, paths, wanted, looks) = *row;
+    let position = position_after(rt, tables, "F");
+    let mut path = TurnPath::new(Limit::new(5).expect(rt, "a limit"));
+    let mut meter = Meter::new();
+    let mut sink = Comparison::new(paths);
+    let slack = Limit::ZERO;
+    let answer = search_within(
+        tables, &position, slack, &mut path, &mut meter, &mut sink, bound,
+    );
+    assert!(rt; answer == wanted, "{bound}");
+    assert!(rt; sink.took_all() && meter.count() == looks, "{bound}");
+}
+
 #[test]
 fn paths_are_taken_or_refused(rt: HostRuntime) {
     let tables = tables_of(&rt, rt.alloc(), Step::Eofb, &mut Meter::new());
     for row in ROWS {
         check_row(&rt, &tables, row);
     }
-    drop(tables);
-}
-
-/// Checks what a search from the cube after F, within so many looks, hands out and returns, and how often it looks.
-fn check_within(
-    rt: &impl Abort,
-    tables: &Tables,
-    bound: u128,
-    paths: &[&str],
-    wanted: (Result<Option<u8>, Stopped<Refused>>, u128),
-) {
-    let position = position_after(rt, tables, "F");
-    let mut path = TurnPath::new(Limit::new(5).expect(rt, "a limit"));
-    let mut meter = Meter::new();
-    let mut sink = Comparison::new(paths);
-    let slack = Limit::new(0).expect(rt, "a slack");
-    let answer = search_within(
-        tables, &position, slack, &mut path, &mut meter, &mut sink, bound,
-    );
-    assert!(rt; sink.took_all(), "{bound}");
-    assert!(rt; answer.map(|it| it.length) == wanted.0, "{bound}");
-    assert!(rt; meter.count() == wanted.1, "{bound}");
-}
-
-/// One look in each of the deepenings to 0 and 1, and 18 more that find F and F': a bound of 19 cuts the search before these.
-#[test]
-fn a_search_is_cut_before_its_bound(rt: HostRuntime) {
-    let tables = tables_of(&rt, rt.alloc(), Step::Eofb, &mut Meter::new());
-    check_within(&rt, &tables, 20, &["F", "F'"], (Ok(Some(1)), 20));
-    check_within(&rt, &tables, 19, &[], (Err(Stopped::Cut), 2));
+    for row in BOUNDS {
+        check_within(&rt, &tables, row);
+    }
     drop(tables);
 }

@@ -32,24 +32,18 @@ const STEPS: &[Row] = &[
     (Step::DrEoud, "dr-eoud", Some("eoud"), TURNS_FROM_UD),
 ];
 
-fn has_names(step: Step, name: &str, start_name: Option<&str>) -> bool {
-    step.name() == name
-        && Step::from_name(name.as_bytes()) == Some(step)
-        && step.start_name() == start_name
-}
-
-fn check_turns(rt: &impl Abort, step: Step, turns: &str) {
+fn check_row(rt: &impl Abort, index: usize, row: &Row) {
+    let (step, name, start_name, turns) = *row;
+    let is_there = Step::all().get(index) == Some(&step);
+    let is_named = step.name() == name && Step::from_name(name.as_bytes()) == Some(step);
+    assert!(rt;
+        is_there && is_named && step.start_name() == start_name,
+        "{name}"
+    );
     let mut text = LineText::new();
     assert!(rt; step.turns().len() <= 18);
     put_faces(step.turns(), &mut text);
     check_bytes(rt, text.as_slice(), turns.as_bytes());
-}
-
-fn check_row(rt: &impl Abort, index: usize, row: &Row) {
-    let (step, name, start_name, turns) = *row;
-    let is_there = Step::all().get(index) == Some(&step);
-    assert!(rt; is_there && has_names(step, name, start_name), "{name}");
-    check_turns(rt, step, turns);
 }
 
 #[test]
@@ -57,26 +51,6 @@ fn steps_have_their_names_and_turns(rt: HostRuntime) {
     assert!(rt; Step::all().len() == STEPS.len());
     for (index, row) in STEPS.iter().enumerate() {
         check_row(&rt, index, row);
-    }
-}
-
-fn check_equal(rt: &impl Abort, step: Step, other: Step) {
-    let one_name = step.name() == other.name();
-    let is_right = (step == other) == one_name && (step.goals() == other.goals()) == one_name;
-    assert!(rt; is_right, "{}", step.name());
-}
-
-fn check_equals(rt: &impl Abort, step: Step) {
-    for other in Step::all() {
-        check_equal(rt, step, *other);
-    }
-}
-
-// The nine single goals are those of the first nine steps.
-#[test]
-fn steps_and_goals_are_equal_to_themselves_alone(rt: HostRuntime) {
-    for step in Step::all() {
-        check_equals(&rt, *step);
     }
 }
 
@@ -168,29 +142,15 @@ fn check_standing(rt: &impl Abort, standing: &Standing, step: Step) {
     let cube = cube_after(rt, standing.moves);
     let is_reached = standing.reached.contains(&step);
     let may_start = is_reached || standing.started.contains(&step);
-    assert!(rt;
-        step.reached(&cube) == is_reached,
-        "{} after {}",
-        step.name(),
-        standing.moves
-    );
-    assert!(rt;
-        step.may_start(&cube) == may_start,
-        "{} after {}",
-        step.name(),
-        standing.moves
-    );
-}
-
-fn check_standings(rt: &impl Abort, standing: &Standing) {
-    for step in Step::all() {
-        check_standing(rt, standing, *step);
-    }
+    let is_right = step.reached(&cube) == is_reached && step.may_start(&cube) == may_start;
+    assert!(rt; is_right, "{} after {}", step.name(), standing.moves);
 }
 
 #[test]
 fn steps_are_reached_or_may_start(rt: HostRuntime) {
     for standing in STANDINGS {
-        check_standings(&rt, standing);
+        for step in Step::all() {
+            check_standing(&rt, standing, *step);
+        }
     }
 }

@@ -3,7 +3,7 @@
 use crate::searches::tables_of;
 use niss_cube::Step;
 use niss_moves::{Niss, read};
-use niss_search::{Limit, Meter};
+use niss_search::{Limit, Meter, Tables};
 use niss_ways::{Axes, AxisTables, SideTurns, Start, Way, WayTables, Wish, find_ways};
 use std::alloc::Global;
 use std::process::Abort;
@@ -155,8 +155,7 @@ fn check_turns(rt: &impl Abort, turns: &SideTurns, wanted: &[u8]) {
 /// Checks what a row tells.
 fn check_row(rt: &impl Abort, way: &Way, row: &Row) {
     let (total, case, [first, second, third, fourth]) = row;
-    assert!(rt; way.total == *total);
-    assert!(rt; (way.corners, way.edges) == *case);
+    assert!(rt; way.total == *total && (way.corners, way.edges) == *case);
     check_turns(rt, &way.eo.normal, first);
     check_turns(rt, &way.eo.inverse, second);
     check_turns(rt, &way.dr.normal, third);
@@ -169,19 +168,14 @@ fn line_of(rt: &impl Abort, bytes: &[u8]) -> Niss {
     read(bytes).expect(rt, "a line")
 }
 
-/// Where one stands after the lines of a question.
-fn start_of(rt: &impl Abort, question: &Question) -> Start {
-    let scramble = line_of(rt, question.scramble);
-    let so_far = line_of(rt, question.so_far);
-    Start::after(&scramble, &so_far).expect(rt, "few moves")
-}
-
 /// The most rows of a question.
 const MOST_ROWS: usize = 6;
 
 /// Checks the rows of a question, of which the room has no more.
 fn check_rows(rt: &impl Abort, tables: &WayTables<Global>, question: &Question) {
-    let start = start_of(rt, question);
+    let scramble = line_of(rt, question.scramble);
+    let so_far = line_of(rt, question.so_far);
+    let start = Start::after(&scramble, &so_far).expect(rt, "few moves");
     let mut room = [Way::default(); MOST_ROWS];
     let wish = Wish {
         slack: Limit::new(question.slack).expect(rt, "a slack"),
@@ -193,51 +187,57 @@ fn check_rows(rt: &impl Abort, tables: &WayTables<Global>, question: &Question) 
     let places = question.rows.len();
     assert!(rt; places <= MOST_ROWS);
     let found = find_ways(tables, &start, &wish, &mut room[..places], 0);
-    assert!(rt; !found.cut);
-    assert!(rt; found.rows == places);
+    assert!(rt; !found.cut && found.rows == places);
     for (way, row) in room.iter().zip(question.rows) {
         check_row(rt, way, row);
     }
 }
 
-#[test]
-fn the_best_rows_are_those_of_the_definition(rt: HostRuntime) {
-    let eofb = tables_of(&rt, rt.alloc(), Step::Eofb, &mut Meter::new());
-    let eorl = tables_of(&rt, rt.alloc(), Step::Eorl, &mut Meter::new());
-    let eoud = tables_of(&rt, rt.alloc(), Step::Eoud, &mut Meter::new());
-    let drud_eofb = tables_of(&rt, rt.alloc(), Step::DrudEofb, &mut Meter::new());
-    let drrl_eofb = tables_of(&rt, rt.alloc(), Step::DrrlEofb, &mut Meter::new());
-    let drud_eorl = tables_of(&rt, rt.alloc(), Step::DrudEorl, &mut Meter::new());
-    let drfb_eorl = tables_of(&rt, rt.alloc(), Step::DrfbEorl, &mut Meter::new());
-    let drrl_eoud = tables_of(&rt, rt.alloc(), Step::DrrlEoud, &mut Meter::new());
-    let drfb_eoud = tables_of(&rt, rt.alloc(), Step::DrfbEoud, &mut Meter::new());
+/// Answers the questions by the tables of the first nine steps.
+fn check_questions(rt: &impl Abort, all: &[Tables]) {
+    let [
+        eofb,
+        eorl,
+        eoud,
+        drud_eofb,
+        drrl_eofb,
+        drud_eorl,
+        drfb_eorl,
+        drrl_eoud,
+        drfb_eoud,
+    ] = all
+    else {
+        panic!(rt; "not nine tables")
+    };
     let tables = WayTables {
         fb: Some(AxisTables {
-            orientation: &eofb,
-            first: &drud_eofb,
-            second: &drrl_eofb,
+            orientation: eofb,
+            first: drud_eofb,
+            second: drrl_eofb,
         }),
         rl: Some(AxisTables {
-            orientation: &eorl,
-            first: &drud_eorl,
-            second: &drfb_eorl,
+            orientation: eorl,
+            first: drud_eorl,
+            second: drfb_eorl,
         }),
         ud: Some(AxisTables {
-            orientation: &eoud,
-            first: &drrl_eoud,
-            second: &drfb_eoud,
+            orientation: eoud,
+            first: drrl_eoud,
+            second: drfb_eoud,
         }),
     };
     for question in QUESTIONS {
-        check_rows(&rt, &tables, question);
+        check_rows(rt, &tables, question);
     }
-    drop(eofb);
-    drop(eorl);
-    drop(eoud);
-    drop(drud_eofb);
-    drop(drrl_eofb);
-    drop(drud_eorl);
-    drop(drfb_eorl);
-    drop(drrl_eoud);
-    drop(drfb_eoud);
+}
+
+#[test]
+fn the_best_rows_are_those_of_the_definition(rt: HostRuntime) {
+    let mut all = Vec::new(rt.alloc());
+    for step in Step::all().iter().take(9) {
+        let tables = tables_of(&rt, rt.alloc(), *step, &mut Meter::new());
+        all.push(tables).expect(&rt, "memory for tables");
+    }
+    check_questions(&rt, all.as_slice());
+    drop(all);
 }

@@ -30,12 +30,12 @@ use Rattle.niss_search.specs.Deepening.{Part, EndsAt, looks_before, all_after}
 use Rattle.niss_search.specs.Positions.{position_of}
 use Rattle.niss_embed.specs.SolveAfter.{found_after, looks_for_after, looks_to_shortest, searched_after}
 use Rattle.niss_embed.specs.SolveAfter.{SolvesCubeAfter, SolvesAtAfter, SolvesAfter, Spells, line_of_turns}
-use Rattle.niss_embed.specs.declared.line_search.CountedSolutions.{CountedSolutions}
-use Rattle.niss_embed.specs.declared.line_search.Refused.{Refused}
-use Rattle.niss_embed.specs.declared.line_search.SolutionLines.{SolutionLines}
+use Rattle.niss_embed.specs.declared.line.search.CountedSolutions.{CountedSolutions}
+use Rattle.niss_embed.specs.declared.line.search.Refused.{Refused}
+use Rattle.niss_embed.specs.declared.line.search.SolutionLines.{SolutionLines}
 use Rattle.niss_embed.specs.declared.answer.Status.TheVariants as status
-use Rattle.niss_embed.specs.declared.line_search.Wanted.{Wanted}
-use Rattle.niss_embed.specs.declared.search_answer.SearchAnswer.{SearchAnswer}
+use Rattle.niss_embed.specs.declared.line.search.Wanted.{Wanted}
+use Rattle.niss_embed.specs.declared.line.search_answer.SearchAnswer.{SearchAnswer}
 use Rattle.niss_embed.proofs.RestLemmas.{stopped_by, cut_by}
 use Rattle.niss_embed.proofs.CountLemmas.{CountsPath, RefusesMore, stop as stop_counting}
 use Rattle.niss_embed.proofs.SolveLemmas.{Lines, begun, ended, told_of, solve_answer}

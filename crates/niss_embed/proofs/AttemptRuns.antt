@@ -6,8 +6,8 @@ use Rattle.std.proofs.lemmas.List.{append-nil, drop-drop, drop-set-lt, length-dr
 use Rattle.niss_text.specs.Moves.{is_wanted}
 use Rattle.niss_text.specs.declared.moves.MovesOf.TheVariants.{Scramble}
 use Rattle.niss_text.specs.declared.text_line.TextLine.{TextLine}
-use Rattle.niss_embed.specs.declared.runs.Run.{Run}
-use Rattle.niss_embed.specs.declared.attempt_checks.AttemptCheck.{AttemptCheck}
+use Rattle.niss_embed.specs.declared.attempts.runs.Run.{Run}
+use Rattle.niss_embed.specs.declared.attempts.checks.AttemptCheck.{AttemptCheck}
 use Rattle.niss_embed.specs.Attempts.{with_line, runs_of, with_scramble, attempts_from}
 use Rattle.niss_embed.specs.Runs.{Alike}
 unfoldable use Rattle.niss_embed.specs.Attempts.{Are}
@@ -117,8 +117,8 @@ pub all_checks : {X : Type 0} (P : X → AttemptCheck → Type 0) (xs : List X) 
 all_checks P xs checks more none are = subst (λ v. Are P xs (v ++ more)) (sym none) are
 
 -- what follows is the same after one more
-pub behind_check : (checks checks' first : List AttemptCheck) (count : ℕ) (it : AttemptCheck) → checks' ≡ set checks count it → drop count checks ≡ drop count first →
+pub after_check : (checks checks' first : List AttemptCheck) (count : ℕ) (it : AttemptCheck) → checks' ≡ set checks count it → drop count checks ≡ drop count first →
     drop (count + 1) checks' ≡ drop (count + 1) first
-behind_check checks checks' first count it same far =
+after_check checks checks' first count it same far =
     ap (λ v. drop (count + 1) v) same ∙ drop-set-lt (count + 1) checks count it (omega arith) ∙ sym (drop-drop 1 count checks) ∙ ap (λ v. drop 1 v) far
     ∙ drop-drop 1 count first

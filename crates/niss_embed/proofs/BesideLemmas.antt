@@ -14,8 +14,8 @@ use Rattle.niss_embed.specs.Beside.{IsDoubtBeside, IsFound, IsLongSeen, IsOfLong
 use Rattle.niss_embed.specs.LineFacts.{IsReadAs}
 use Rattle.niss_embed.specs.declared.doubts.Doubt.{Doubt}
 use Rattle.niss_embed.specs.declared.doubts.Reason.TheVariants.{AnotherAttempt, SeveralSolutions}
-use Rattle.niss_embed.specs.declared.beside.Beside.{Beside}
-use Rattle.niss_embed.specs.declared.beside.Seen.{Seen}
+use Rattle.niss_embed.specs.declared.doubts.beside.Beside.{Beside}
+use Rattle.niss_embed.specs.declared.doubts.beside.Seen.{Seen}
 
 -- what is found with a step before the others
 pub found_with : (text : List ℕ) (lines : List TextLine) (scramble : Moves) (solution : List Turn) (it result : Beside) (line : TextLine) (seen : Seen) →

@@ -10,10 +10,10 @@ use Rattle.niss_embed.specs.BestWays.{WritesTurns, WritesLineAfter, unwritten_li
 use Rattle.niss_embed.specs.Memory.{Memory}
 use Rattle.niss_embed.specs.LineCalls.{status_number}
 use Rattle.niss_embed.specs.declared.answer.Status.TheVariants.{Done, Cut}
-use Rattle.niss_embed.specs.declared.ways_answer.LineAfterAnswer.{LineAfterAnswer}
+use Rattle.niss_embed.specs.declared.two_lines.ways_answer.LineAfterAnswer.{LineAfterAnswer}
 use Rattle.niss_embed.specs.declared.two_lines.Nowhere.{Nowhere}
-use Rattle.niss_embed.specs.declared.ways_answer.WaysAnswer.{WaysAnswer}
-use Rattle.niss_embed.specs.declared.ways_answer.WaysWanted.{WaysWanted}
+use Rattle.niss_embed.specs.declared.two_lines.ways_answer.WaysAnswer.{WaysAnswer}
+use Rattle.niss_embed.specs.declared.two_lines.ways_answer.WaysWanted.{WaysWanted}
 
 by_cut : (b : Bool) (n : ℕ) → n ≡ (if b then status_number Cut else status_number Done) → (n ≡ status_number Done) ⊎ (n ≡ status_number Cut)
 by_cut true n e = inr e

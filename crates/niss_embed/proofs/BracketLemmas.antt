@@ -16,9 +16,9 @@ use Rattle.niss_moves.specs.declared.turn.Axis.TheVariants.{Ud, Rl, Fb}
 use Rattle.niss_moves.specs.declared.token.Token.{Token}
 use Rattle.niss_moves.proofs.CallerLemmas.{Yes, Faces, holds, and_left, and_right}
 unfoldable use Rattle.niss_moves.proofs.CallerLemmas.{every_face}
-use Rattle.niss_embed.specs.declared.step_reading.Reading.TheVariants.{AsWritten, WithoutBrackets}
-use Rattle.niss_embed.specs.declared.dead_steps.Depth.{Depth}
-use Rattle.niss_embed.specs.declared.dead_steps.Depth.TheVariants.{Out, In, Wrong}
+use Rattle.niss_embed.specs.declared.steps.reading.Reading.TheVariants.{AsWritten, WithoutBrackets}
+use Rattle.niss_embed.specs.declared.steps.dead.Depth.{Depth}
+use Rattle.niss_embed.specs.declared.steps.dead.Depth.TheVariants.{Out, In, Wrong}
 use Rattle.niss_embed.specs.DeadSteps.{IsShut, after_byte, after_bytes, after_closing, after_opening}
 use Rattle.niss_embed.specs.Corners.{EndsNone, has_bracket}
 use Rattle.niss_embed.specs.Parts.{read_byte}

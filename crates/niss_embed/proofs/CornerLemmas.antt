@@ -15,7 +15,7 @@ use Rattle.niss_moves.specs.declared.turn.Power.{Power}
 use Rattle.niss_moves.specs.declared.turn.Power.TheVariants.{Quarter, Half, Counter}
 use Rattle.niss_moves.proofs.CallerLemmas.{Fact, Yes, Equal, Both, When, Numbers, Places, Faces, Tokens, Holds, holds, and_left, effect-append, inverse-append}
 unfoldable use Rattle.niss_moves.proofs.CallerLemmas.{every_face, every_power, every_axis, every_slice, every_token}
-use Rattle.niss_embed.specs.declared.corners.Corners.{Corners}
+use Rattle.niss_embed.specs.declared.steps.cube_corners.Corners.{Corners}
 use Rattle.niss_embed.specs.Corners.{Brings, side, home, corners_after, is_one_bit}
 unfoldable use Rattle.niss_embed.specs.Corners.{corner_of}
 

@@ -15,9 +15,9 @@ use Rattle.niss_moves.specs.Solving.{IsRotated, is_rotated, solves}
 use Rattle.niss_moves.specs.declared.token.Token.{Token}
 use Rattle.niss_moves.specs.declared.fault.ReadFault.{ReadFault}
 use Rattle.niss_moves.proofs.CallerLemmas.{inverse-append}
-use Rattle.niss_embed.specs.declared.step_reading.Reading.{Reading}
-use Rattle.niss_embed.specs.declared.step_reading.Reading.TheVariants.{AsWritten, WithoutBrackets, InCapitals}
-use Rattle.niss_embed.specs.declared.step_corners.StepCorners.{StepCorners}
+use Rattle.niss_embed.specs.declared.steps.reading.Reading.{Reading}
+use Rattle.niss_embed.specs.declared.steps.reading.Reading.TheVariants.{AsWritten, WithoutBrackets, InCapitals}
+use Rattle.niss_embed.specs.declared.steps.corners.StepCorners.{StepCorners}
 use Rattle.niss_embed.proofs.BracketLemmas.{pieces_read_so, shut_first, shut_last, spelled_in, spelled_out}
 use Rattle.niss_embed.specs.DeadSteps.{StandsNowhere, StaysDead}
 use Rattle.niss_embed.proofs.DeadLemmas.{dead_before}

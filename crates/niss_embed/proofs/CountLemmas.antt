@@ -13,8 +13,8 @@ use Rattle.niss_search.specs.Laws.{FirstIsLeast}
 use Rattle.niss_search.specs.declared.budget.Stopped.TheVariants as ending
 use Rattle.niss_shell.specs.Names.{Turn, Step}
 use Rattle.niss_embed.specs.LineSearch.{CountState, count_state, Counts, CountsNoMore, CountsCube, capped, is_cut, all_found, looks_for_all}
-use Rattle.niss_embed.specs.declared.line_search.CountedSolutions.{CountedSolutions}
-use Rattle.niss_embed.specs.declared.line_search.Wanted.{Wanted}
+use Rattle.niss_embed.specs.declared.line.search.CountedSolutions.{CountedSolutions}
+use Rattle.niss_embed.specs.declared.line.search.Wanted.{Wanted}
 use Rattle.niss_embed.proofs.SolveLemmas.{at_front, finds_all, finds_some, finds_cut, told_of, Found, at_most_min, is_not_less, min_is_left, min_is_right}
 use Rattle.niss_embed.proofs.WrittenLemmas.{first_of, first_of-more}
 

@@ -16,8 +16,8 @@ use Rattle.niss_moves.specs.declared.token.Token.{Token}
 use Rattle.niss_moves.specs.declared.turn.Power.TheVariants.{Half, Counter}
 use Rattle.niss_embed.specs.DeadSteps.{Rests, IsDead, IsStopped, StaysDead, IsParted, EndsWhole}
 use Rattle.niss_embed.specs.Parts.{read_byte, repeated}
-use Rattle.niss_embed.specs.declared.step_reading.Reading.{Reading}
-use Rattle.niss_embed.specs.declared.step_reading.Reading.TheVariants.{AsWritten, WithoutBrackets, InCapitals}
+use Rattle.niss_embed.specs.declared.steps.reading.Reading.{Reading}
+use Rattle.niss_embed.specs.declared.steps.reading.Reading.TheVariants.{AsWritten, WithoutBrackets, InCapitals}
 
 abbrev is_in : Option ℕ → Bool
 is_in None = false

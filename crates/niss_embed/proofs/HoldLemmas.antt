@@ -24,7 +24,7 @@ use Rattle.niss_embed.specs.Corners.{Brings}
 unfoldable use Rattle.niss_embed.specs.Corners.{corner_of}
 use Rattle.niss_embed.specs.DeadSteps.{Rests}
 use Rattle.niss_embed.specs.TurnedCube.{hold_numbered, letter_if, no_rotation, suffix_if, turned_bytes, word_if}
-use Rattle.niss_embed.specs.declared.holds.Hold.{Hold}
+use Rattle.niss_embed.specs.declared.doubts.turned_cube.holds.Hold.{Hold}
 use Rattle.niss_embed.proofs.CornerLemmas.{corner_is_place}
 use Rattle.niss_embed.proofs.CornerLines.{spells_both}
 use Rattle.niss_embed.proofs.DeadLemmas.{rests_blank}

@@ -10,7 +10,7 @@ use Rattle.niss_text.specs.declared.text_line.TextLine.{TextLine}
 use Rattle.niss_embed.specs.Another.{IsSolvedBy}
 use Rattle.niss_embed.specs.Doubts.{AreWritten}
 use Rattle.niss_embed.specs.InnerAttempt.{IsBegunIn, IsUndoneIfAny}
-use Rattle.niss_embed.specs.declared.written.NoRoom.{NoRoom}
+use Rattle.niss_embed.specs.declared.attempts.written.NoRoom.{NoRoom}
 
 -- what is below both is below the less
 pub at_least : (a b c : ℕ) → c ≤ a → c ≤ b → c ≤ min a b

@@ -1,9 +1,7 @@
--- Whether one of the first numbers passes a test, and what is told of a solution that may be of another scramble.
-use Rattle.std.proofs.Common.{◌≡◌, ◌∙◌, ℕ, zero, suc, ◌+◌, ◌<◌, Bool, true, false, cond, ◌||◌, Result, Ok, Err, length, List, ◌++◌, ◌∷◌, [], refl, ap, subst, arith}
+-- What is told of a solution that may be of another scramble.
+use Rattle.std.proofs.Common.{◌≡◌, ℕ, zero, suc, ◌+◌, ◌<◌, Bool, true, false, cond, ◌||◌, Result, Ok, Err, length, List, refl, subst}
 use Rattle.std.specs.List.{list_any, range_with_len}
-use Rattle.std.proofs.lemmas.List.Folds.{list_any-append}
 use Rattle.niss_text.specs.declared.text_line.TextLine.{TextLine}
-use Rattle.std.proofs.Math.Bool.{or-true}
 use Rattle.std.proofs.lemmas.Bool.{and_right, lt-ltb}
 use Rattle.std.specs.Prelude.{min, nat_lt}
 use Rattle.niss_moves.specs.Line.{Moves}
@@ -12,31 +10,8 @@ use Rattle.niss_moves.specs.declared.fault.ReadFault.{ReadFault}
 use Rattle.niss_shell.specs.Words.{most_bytes}
 use Rattle.niss_embed.specs.LineFacts.{check_of, check_read, forms_of, unchecked}
 use Rattle.niss_embed.specs.declared.answer.Status.TheVariants.{Stopped}
-use Rattle.niss_search.proofs.CallerLemmas.{range_push}
-use Rattle.niss_embed.specs.declared.judged.Judged.{Judged}
+use Rattle.niss_embed.specs.declared.attempts.judged.Judged.{Judged}
 use Rattle.niss_embed.specs.Attempts.{Elsewhere, IsOfSome, IsTried, is_open, most_tried, scramble_of, solves_known, solves_some}
-
--- none does, with one more that doesn't
-pub none_more : (test : ℕ → Bool) (n : ℕ) → list_any test (range_with_len 0 n) ≡ false → test n ≡ false → list_any test (range_with_len 0 (n + 1)) ≡ false
-none_more test n none fails =
-    let last : 0 + n ≡ n = omega arith in
-    ap (list_any test) (range_push 0 n ∙ ap (λ k. range_with_len 0 n ++ k ∷ []) last) ∙ list_any-append test (range_with_len 0 n) (n ∷ []) ∙ (λ i. none i || (fails i || false))
-
-found_from : (test : ℕ → Bool) (first k n : ℕ) → k < n → test (first + k) ≡ true → list_any test (range_with_len first n) ≡ true
-found_from test first k zero less is = absurd (omega (arith, less))
-found_from test first zero (suc n) less is =
-    let same : first + 0 ≡ first = omega arith in
-    ap (λ b. b || list_any test (range_with_len (first + 1) n)) (subst (λ (m : ℕ). test m ≡ true) same is)
-found_from test first (suc k) (suc n) less is =
-    let next : first + suc k ≡ first + 1 + k = omega arith in
-    let rest = found_from test (first + 1) k n (omega (arith, less)) (subst (λ (m : ℕ). test m ≡ true) next is) in
-    ap (λ b. test first || b) rest ∙ or-true (test first)
-
--- one does
-pub one_passes : (test : ℕ → Bool) (k n : ℕ) → k < n → test k ≡ true → list_any test (range_with_len 0 n) ≡ true
-one_passes test k n less is =
-    let same : k ≡ 0 + k = omega arith in
-    found_from test 0 k n less (subst (λ (m : ℕ). test m ≡ true) same is)
 
 -- A line that is too long, or has a fault, solves no scramble.
 none_of : (test : ℕ → Bool) (n first : ℕ) → ((k : ℕ) → test k ≡ false) → list_any test (range_with_len first n) ≡ false

@@ -11,12 +11,12 @@ use Rattle.niss_moves.specs.declared.turn.Power.{Power}
 use Rattle.niss_moves.specs.declared.turn.Power.TheVariants.{Quarter, Half, Counter}
 use Rattle.niss_moves.specs.declared.turn.Turn.{Turn}
 use Rattle.niss_text.specs.declared.text_line.TextLine.{TextLine}
-use Rattle.niss_embed.specs.declared.step_reading.Reading.TheVariants.{AsWritten}
+use Rattle.niss_embed.specs.declared.steps.reading.Reading.TheVariants.{AsWritten}
 use Rattle.niss_embed.specs.DeadSteps.{Rests}
 use Rattle.niss_embed.specs.Parts.{read_byte}
 use Rattle.niss_embed.specs.LostTurn.{IsLostAt}
 use Rattle.niss_embed.specs.ShownTurn.{IsBorder, shown_at, shown_between, suffix_byte, turn_bytes}
-use Rattle.niss_embed.specs.declared.shown_turn.Border.{Border}
+use Rattle.niss_embed.specs.declared.doubts.shown_turn.Border.{Border}
 use Rattle.niss_moves.specs.Line.{Moves}
 use Rattle.niss_moves.specs.declared.fault.ReadFault.{ReadFault}
 use Rattle.niss_embed.proofs.DeadLemmas.{rests_blank}

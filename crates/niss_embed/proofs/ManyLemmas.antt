@@ -80,7 +80,7 @@ module _ {T : Type 0} (answers : List ℕ → T → Type 0) where
     within = omega arith;
     left = ap (λ k. drop k text) nothing;
     room = omega arith;
-    first = record { each = λ i a l. absurd (omega arith); behind = refl; same_length = refl };
+    first = record { each = λ i a l. absurd (omega arith); after_them = refl; same_length = refl };
   }
     where
       nothing : 0 ≡ length text - length text
@@ -95,9 +95,9 @@ module _ {T : Type 0} (answers : List ℕ → T → Type 0) where
     length-now : length now ≡ count + 1
     length-now = omega (arith, length-append was.done (line ∷ []), was.length_is)
 
-    behind-now : drop (count + 1) after ≡ drop (count + 1) before
-    behind-now =
-        let d : drop count after ≡ drop count before = ap (λ k. drop k after) (sym was.length_is) ∙ was.first.behind ∙ ap (λ k. drop k before) was.length_is in
+    after-now : drop (count + 1) after ≡ drop (count + 1) before
+    after-now =
+        let d : drop count after ≡ drop count before = ap (λ k. drop k after) (sym was.length_is) ∙ was.first.after_them ∙ ap (λ k. drop k before) was.length_is in
         sym (drop-drop 1 count after) ∙ ap (drop 1) d ∙ drop-drop 1 count before
 
     left-now : rest_now ≡ drop (length text - length rest_now) text
@@ -125,7 +125,7 @@ module _ {T : Type 0} (answers : List ℕ → T → Type 0) where
               subst (λ (z : T). answers (get_or now i []) z) (sym (get_or-set_other after count i answer a w.1))
               (subst (λ (q : List ℕ). answers q (get_or after i a)) (sym (get_or_append_left was.done (line ∷ []) [] i li)) (was.first.each i a li))
         ];
-        behind = ap (λ k. drop k (set after count answer)) length-now ∙ drop-set-lt (count + 1) after count answer (omega arith) ∙ behind-now
+        after_them = ap (λ k. drop k (set after count answer)) length-now ∙ drop-set-lt (count + 1) after count answer (omega arith) ∙ after-now
             ∙ ap (λ k. drop k before) (sym length-now);
         same_length = length-set after count answer ∙ was.first.same_length;
       };

@@ -10,7 +10,7 @@ use Rattle.niss_moves.specs.Line.{Moves, Spells}
 use Rattle.niss_moves.specs.Reader.{read_line}
 use Rattle.niss_moves.specs.declared.fault.ReadFault.{ReadFault}
 use Rattle.niss_moves.specs.declared.token.Token.{Token}
-use Rattle.niss_embed.specs.declared.step_corners.StepCorners.{StepCorners}
+use Rattle.niss_embed.specs.declared.steps.corners.StepCorners.{StepCorners}
 use Rattle.niss_embed.specs.Corners.{AreSteps, IsTail, Reads, has_bracket}
 use Rattle.niss_embed.specs.DeadSteps.{AreParted, StandsNowhere, StaysDead}
 use Rattle.niss_embed.specs.MovedStep.{IsMovedAmong, IsMovedAt, line_moved, solves_exchanged, solves_moved, with_blank}

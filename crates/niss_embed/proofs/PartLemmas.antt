@@ -6,9 +6,9 @@ use Rattle.std.proofs.lemmas.Bool.{cases_lt}
 use Rattle.std.proofs.lemmas.List.{append-nil, take_all, take-append-le, length-take-le}
 use Rattle.std.proofs.lemmas.List.Elements.{filter-append}
 use Rattle.niss_search.proofs.CallerLemmas.{range_push}
-use Rattle.niss_embed.specs.declared.parts.How.{How}
-use Rattle.niss_embed.specs.declared.parts.How.TheVariants.{Alone, LeftOut, InBrackets}
-use Rattle.niss_embed.specs.declared.parts.Part.{Part}
+use Rattle.niss_embed.specs.declared.steps.parts.How.{How}
+use Rattle.niss_embed.specs.declared.steps.parts.How.TheVariants.{Alone, LeftOut, InBrackets}
+use Rattle.niss_embed.specs.declared.steps.parts.Part.{Part}
 use Rattle.niss_embed.specs.Corners.{Ascends, AreBounds}
 use Rattle.niss_embed.specs.Parts.{most_steps, in_bracket, is_open_after, is_end, how_number, part, IsHow, IsPart, IsBefore, IsFirst, IsFirstFrom}
 unfoldable use Rattle.niss_embed.specs.Parts.{bounds_of}

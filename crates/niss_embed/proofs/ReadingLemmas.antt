@@ -8,9 +8,9 @@ use Rattle.niss_moves.specs.Line.{Moves, Spells}
 use Rattle.niss_moves.specs.Reader.{read_line}
 use Rattle.niss_moves.specs.Solving.{move_count, solves}
 use Rattle.niss_moves.specs.declared.fault.ReadFault.{ReadFault}
-use Rattle.niss_embed.specs.declared.parts.How.TheVariants.{Alone}
-use Rattle.niss_embed.specs.declared.step_reading.Reading.{Reading}
-use Rattle.niss_embed.specs.declared.step_reading.Reading.TheVariants.{AsWritten}
+use Rattle.niss_embed.specs.declared.steps.parts.How.TheVariants.{Alone}
+use Rattle.niss_embed.specs.declared.steps.reading.Reading.{Reading}
+use Rattle.niss_embed.specs.declared.steps.reading.Reading.TheVariants.{AsWritten}
 use Rattle.niss_embed.specs.Corners.{AreBounds}
 use Rattle.niss_embed.specs.Parts.{IsFirst, end_of_steps, number_of_steps, part, read_byte, solves_all, solves_line, solves_part}
 use Rattle.niss_embed.proofs.CornerLines.{IsRead, HasOneReading, or_left, or_right}

@@ -6,8 +6,8 @@ use Rattle.niss_search.specs.Deepening.{EndsAt, looks_before, paths_before}
 use Rattle.niss_search.specs.Delivery.{WentThrough, StoppedAt}
 use Rattle.niss_shell.specs.Names.{Turn}
 use Rattle.niss_embed.specs.SolveAfter.{up_to_first}
-use Rattle.niss_embed.specs.declared.line_search.CountedSolutions.{CountedSolutions}
-use Rattle.niss_embed.specs.declared.line_search.SolutionLines.{SolutionLines}
+use Rattle.niss_embed.specs.declared.line.search.CountedSolutions.{CountedSolutions}
+use Rattle.niss_embed.specs.declared.line.search.SolutionLines.{SolutionLines}
 use Rattle.niss_embed.proofs.CountLemmas.{CountsPath, RefusesMore}
 use Rattle.niss_embed.proofs.WrittenLemmas.{TakesPath, RefusesPath}
 

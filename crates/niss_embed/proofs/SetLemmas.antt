@@ -10,8 +10,8 @@ use Rattle.std.proofs.lemmas.Bool.{cases_lt, lt-ltb}
 use Rattle.std.proofs.lemmas.Grind.{flat_map-append}
 use Rattle.niss_moves.proofs.CallerLemmas.{Fact, Below, Equal, Both, When, Numbers, holds}
 use Rattle.niss_search.proofs.CallerLemmas.{range_push}
-use Rattle.niss_embed.specs.declared.corners.Corners.{Corners}
-use Rattle.niss_embed.specs.declared.step_sets.StepSet.{StepSet}
+use Rattle.niss_embed.specs.declared.steps.cube_corners.Corners.{Corners}
+use Rattle.niss_embed.specs.declared.steps.sets.StepSet.{StepSet}
 use Rattle.niss_embed.specs.Corners.{IsTail, AreTails, line_from}
 use Rattle.niss_embed.specs.Parts.{most_in_sets, first_in, last_in, step_with, line_with, steps_line, in_brackets_if, IsLeast}
 

@@ -50,7 +50,7 @@ first_dropped [] (suc k) = refl
 first_dropped (x ∷ xs) zero = refl
 first_dropped (x ∷ xs) (suc k) = first_dropped xs k
 
--- the step behind which the next one stands
+-- the step after which the next one stands
 pub above_next : (lines : List TextLine) (k : ℕ) → step_above lines (k + 1) ≡ step_at lines k
 above_next lines k =
     let one : k + 1 ≡ suc k = omega arith in

@@ -11,8 +11,8 @@ use Rattle.niss_ways.specs.declared.way.Part.{Part}
 use Rattle.niss_embed.specs.ListedSides.{IsListing, NotListing, ListsAfter, ListsFrom, ListsOrNot, nowhere_sides, number_of_sides}
 use Rattle.niss_embed.specs.TwoLines as two
 use Rattle.niss_embed.specs.TwoLines.{StartsAfter}
-use Rattle.niss_embed.specs.declared.sides_answer.SidesAnswer.{SidesAnswer}
-use Rattle.niss_embed.specs.declared.sides_answer.SidesWanted.{SidesWanted}
+use Rattle.niss_embed.specs.declared.two_lines.sides_answer.SidesAnswer.{SidesAnswer}
+use Rattle.niss_embed.specs.declared.two_lines.sides_answer.SidesWanted.{SidesWanted}
 use Rattle.niss_embed.specs.declared.two_lines.Nowhere.{Nowhere}
 use Rattle.niss_embed.specs.declared.two_lines.Nowhere.TheVariants.{NoStart}
 

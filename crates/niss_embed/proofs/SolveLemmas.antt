@@ -17,10 +17,10 @@ use Rattle.niss_search.specs.LookNumbers.{found_within_of, look_number_of}
 use Rattle.niss_search.specs.declared.searching.Outcome.{Outcome}
 use Rattle.niss_shell.specs.Names.{Turn, Step}
 use Rattle.niss_shell.specs.Output.{solution_line}
-use Rattle.niss_embed.specs.declared.line_search.SolutionLines.{SolutionLines}
-use Rattle.niss_embed.specs.declared.line_search.Refused.{Refused}
-use Rattle.niss_embed.specs.declared.line_search.Wanted.{Wanted}
-use Rattle.niss_embed.specs.declared.search_answer.SearchAnswer.{SearchAnswer}
+use Rattle.niss_embed.specs.declared.line.search.SolutionLines.{SolutionLines}
+use Rattle.niss_embed.specs.declared.line.search.Refused.{Refused}
+use Rattle.niss_embed.specs.declared.line.search.Wanted.{Wanted}
+use Rattle.niss_embed.specs.declared.line.search_answer.SearchAnswer.{SearchAnswer}
 use Rattle.niss_embed.specs.Memory.{memory, Puts}
 use Rattle.niss_embed.specs.LineSearch.{LinesState, lines_state, most_of_line, Hands, Ended, SolvesCube, FindsOf, first_lines, capped, is_cut}
 use Rattle.niss_embed.specs.LineSearch.{all_found, looks_for_all}
@@ -171,7 +171,7 @@ module _ (l : Lines) where
         ended = inr (inr (refl, at_most_min l.solutions l.most (length all) (omega (arith, l.few, w.took.same_most)) (omega (arith, count, w.within))));
       }
 
--- the number of the one that stands behind so many
+-- the number of the one that stands after so many
 pub at_front : (number : List Turn → ℕ) (all front rest : List (List Turn)) (p : List Turn) → all ≡ front ++ p ∷ rest → (k : ℕ) → k ≡ length front
     → number p ≡ number (get_or all k [])
 at_front number all front rest p listed k is =

@@ -12,10 +12,10 @@ use Rattle.niss_moves.specs.Solving.{IsRotated}
 use Rattle.niss_moves.specs.declared.fault.ReadFault.{ReadFault}
 use Rattle.niss_moves.specs.declared.token.Token.{Token}
 use Rattle.niss_moves.proofs.CallerLemmas.{inverse-append}
-use Rattle.niss_embed.specs.declared.corners.Corners.{Corners}
-use Rattle.niss_embed.specs.declared.step_reading.Reading.TheVariants.{AsWritten, WithoutBrackets}
-use Rattle.niss_embed.specs.declared.step_corners.StepCorners.{StepCorners}
-use Rattle.niss_embed.specs.declared.step_sets.StepSet.{StepSet}
+use Rattle.niss_embed.specs.declared.steps.cube_corners.Corners.{Corners}
+use Rattle.niss_embed.specs.declared.steps.reading.Reading.TheVariants.{AsWritten, WithoutBrackets}
+use Rattle.niss_embed.specs.declared.steps.corners.StepCorners.{StepCorners}
+use Rattle.niss_embed.specs.declared.steps.sets.StepSet.{StepSet}
 use Rattle.niss_embed.specs.DeadSteps.{AreParted, IsDead, IsParted, Rests, StandsNowhere, StaysDead}
 use Rattle.niss_embed.specs.Corners.{Brings, Reads, ReadsSo, Ascends, IsTail, EndsNone, AreSteps, AreTails, has_bracket, home, line_from, no_step}
 use Rattle.niss_embed.specs.Parts.{has, bare_step, read_byte, step_with, steps_line, in_brackets_if, solves_line}

@@ -8,9 +8,9 @@ use Rattle.niss_moves.specs.Solving.{IsRotated}
 use Rattle.niss_moves.specs.declared.rotation.Rotation.{Rotation}
 use Rattle.niss_moves.specs.declared.token.Token.{Token}
 use Rattle.niss_moves.proofs.CallerLemmas.{inverse-append}
-use Rattle.niss_embed.specs.declared.step_corners.StepCorners.{StepCorners}
-use Rattle.niss_embed.specs.declared.step_corners.Around.{Around}
-use Rattle.niss_embed.specs.declared.turned_cube.Sides.{Sides}
+use Rattle.niss_embed.specs.declared.steps.corners.StepCorners.{StepCorners}
+use Rattle.niss_embed.specs.declared.steps.corners.Around.{Around}
+use Rattle.niss_embed.specs.declared.doubts.turned_cube.Sides.{Sides}
 use Rattle.niss_embed.specs.Corners.{Ascends, Brings, EndsNone, IsAround, IsAroundBorder, IsTail, Reads}
 use Rattle.niss_embed.specs.DeadSteps.{AreParted, IsDead, Rests, StandsNowhere, StaysDead}
 use Rattle.niss_embed.specs.Parts.{number_of_steps, solves_line, steps_line}

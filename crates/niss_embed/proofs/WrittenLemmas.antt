@@ -7,7 +7,7 @@ use Rattle.std.proofs.lemmas.List.{drop-drop, length-drop}
 use Rattle.niss_search.specs.Delivery.{WentThrough, StoppedIn, WentInto}
 use Rattle.niss_shell.specs.Names.{Turn}
 use Rattle.niss_shell.specs.Output.{solution_line}
-use Rattle.niss_embed.specs.declared.line_search.SolutionLines.{SolutionLines}
+use Rattle.niss_embed.specs.declared.line.search.SolutionLines.{SolutionLines}
 use Rattle.niss_embed.specs.LineSearch.{LinesState, lines_state, Takes, Refuses, most_of_line, first_lines}
 use Rattle.niss_embed.proofs.TargetLemmas.{all_left}
 

@@ -12,13 +12,13 @@ use Rattle.niss_embed.specs.InnerAttempt.{IsBegunWithin}
 use Rattle.niss_embed.specs.LineFacts.{check_of}
 use Rattle.niss_embed.specs.Parts.{TellsPart}
 use Rattle.niss_embed.specs.WholeDoubt.{IsWholeDoubt}
-use Rattle.niss_embed.specs.declared.attempt_checks.AttemptCheck.{AttemptCheck}
-use Rattle.niss_embed.specs.declared.judged.Judged.{Judged}
+use Rattle.niss_embed.specs.declared.attempts.checks.AttemptCheck.{AttemptCheck}
+use Rattle.niss_embed.specs.declared.attempts.judged.Judged.{Judged}
 use Rattle.niss_embed.specs.declared.attempts.Outcome.{Outcome}
 use Rattle.niss_embed.specs.declared.attempts.Outcome.TheVariants.{AtFault, Solved, Unsolved}
-use Rattle.niss_embed.specs.declared.runs.Placed.{Placed}
-use Rattle.niss_embed.specs.declared.known_parts.Found.{Found}
-use Rattle.niss_embed.specs.declared.known_parts.Known.{Known}
+use Rattle.niss_embed.specs.declared.attempts.runs.Placed.{Placed}
+use Rattle.niss_embed.specs.declared.attempts.known_parts.Found.{Found}
+use Rattle.niss_embed.specs.declared.attempts.known_parts.Known.{Known}
 use Rattle.niss_text.specs.declared.known.KnownPart.{KnownPart}
 use Rattle.niss_moves.specs.Line.{Moves}
 use Rattle.niss_moves.specs.Reader.{read_line}
@@ -29,10 +29,10 @@ use Rattle.niss_embed.specs.LineFacts.{unchecked}
 use Rattle.niss_embed.specs.declared.answer.Status.TheVariants.{Done}
 use Rattle.niss_embed.specs.declared.doubts.Doubt.{Doubt}
 use Rattle.niss_embed.specs.declared.doubts.Reason.TheVariants.{OfLine, AnotherScramble, Part, WhichScramble, StepOrScramble, AnotherAttempt}
-use Rattle.niss_embed.specs.declared.told.Told.{Told}
-use Rattle.niss_embed.specs.declared.fact_answers.CheckAnswer.{CheckAnswer}
-use Rattle.niss_embed.specs.declared.parts.PartAnswer.{PartAnswer}
-use Rattle.niss_embed.specs.declared.runs.Run.{Run}
+use Rattle.niss_embed.specs.declared.attempts.told.Told.{Told}
+use Rattle.niss_embed.specs.declared.line.fact_answers.CheckAnswer.{CheckAnswer}
+use Rattle.niss_embed.specs.declared.steps.parts.PartAnswer.{PartAnswer}
+use Rattle.niss_embed.specs.declared.attempts.runs.Run.{Run}
 
 -- what makes one doubt the first of some lines that is in doubt
 abbrev pub first_doubt : List TextLine → Option Doubt

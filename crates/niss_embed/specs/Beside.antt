@@ -17,8 +17,8 @@ use Rattle.niss_embed.specs.Doubts.{AreWritten, doubt}
 use Rattle.niss_embed.specs.LineFacts.{IsReadAs}
 use Rattle.niss_embed.specs.declared.doubts.Doubt.{Doubt}
 use Rattle.niss_embed.specs.declared.doubts.Reason.TheVariants.{AnotherAttempt, SeveralSolutions}
-use Rattle.niss_embed.specs.declared.beside.Beside.{Beside}
-use Rattle.niss_embed.specs.declared.beside.Seen.{Seen}
+use Rattle.niss_embed.specs.declared.doubts.beside.Beside.{Beside}
+use Rattle.niss_embed.specs.declared.doubts.beside.Seen.{Seen}
 
 -- a step that isn't of the solution, and is as long as a scramble: its moves have forty bytes at least
 abbrev pub is_long_other : TextLine → Bool

@@ -16,12 +16,12 @@ use Rattle.niss_embed.specs.Memory.{Memory}
 use Rattle.niss_embed.specs.declared.answer.LineAnswer.{LineAnswer}
 use Rattle.niss_embed.specs.declared.answer.Status.{Status}
 use Rattle.niss_embed.specs.declared.answer.Status.TheVariants.{Done, Usage, Cut}
-use Rattle.niss_embed.specs.declared.ways_answer.LineAfterAnswer.{LineAfterAnswer}
+use Rattle.niss_embed.specs.declared.two_lines.ways_answer.LineAfterAnswer.{LineAfterAnswer}
 use Rattle.niss_embed.specs.TwoLines.{Both, Stands, both_of, nowhere_status, nowhere_line, nowhere_fault, nowhere_column}
 use Rattle.niss_embed.specs.declared.two_lines.Nowhere.{Nowhere}
 use Rattle.niss_embed.specs.declared.two_lines.Nowhere.TheVariants.{TooMany}
-use Rattle.niss_embed.specs.declared.ways_answer.WaysAnswer.{WaysAnswer}
-use Rattle.niss_embed.specs.declared.ways_answer.WaysWanted.{WaysWanted}
+use Rattle.niss_embed.specs.declared.two_lines.ways_answer.WaysAnswer.{WaysAnswer}
+use Rattle.niss_embed.specs.declared.two_lines.ways_answer.WaysWanted.{WaysWanted}
 
 -- an answer that tells of no search
 abbrev pub unfound : Status → (line fault column : ℕ) → WaysAnswer

@@ -5,7 +5,7 @@ use Rattle.niss_moves.specs.Reader.{read_line}
 use Rattle.niss_moves.specs.declared.fault.ReadFault.{ReadFault}
 use Rattle.niss_embed.specs.Corners.{AreBounds, IsAttempt}
 use Rattle.niss_embed.specs.Parts.{number_of_steps, solves_line, steps_line, most_step_bytes, most_bounds}
-use Rattle.niss_embed.specs.declared.whole_steps.WholeSteps.{WholeSteps}
+use Rattle.niss_embed.specs.declared.steps.WholeSteps.{WholeSteps}
 
 -- all steps as a line, with bytes before the step of a number, or after the last one
 abbrev pub line_between : (steps bounds : List ℕ) → ℕ → (bytes : List ℕ) → List ℕ

@@ -7,13 +7,13 @@ use Rattle.niss_moves.specs.Places.{Coord, Pos, Place, is_corner}
 use Rattle.niss_moves.specs.Indices.{face_index, power_index, axis_index}
 use Rattle.niss_moves.specs.declared.token.Token.{Token}
 use Rattle.niss_moves.specs.declared.turn.Power.{Power}
-use Rattle.niss_embed.specs.declared.corners.Corners.{Corners}
-use Rattle.niss_embed.specs.declared.corners.TheConstants.{TURNS, ROTATIONS}
-use Rattle.niss_embed.specs.declared.step_corners.StepCorners.{StepCorners}
-use Rattle.niss_embed.specs.declared.step_corners.Around.{Around}
-use Rattle.niss_embed.specs.declared.step_corners.AttemptCorners.{AttemptCorners}
-use Rattle.niss_embed.specs.declared.step_sets.StepSet.{StepSet}
-use Rattle.niss_embed.specs.declared.dead_steps.Depth.TheVariants.{Out}
+use Rattle.niss_embed.specs.declared.steps.cube_corners.Corners.{Corners}
+use Rattle.niss_embed.specs.declared.steps.cube_corners.TheConstants.{TURNS, ROTATIONS}
+use Rattle.niss_embed.specs.declared.steps.corners.StepCorners.{StepCorners}
+use Rattle.niss_embed.specs.declared.steps.corners.Around.{Around}
+use Rattle.niss_embed.specs.declared.steps.corners.AttemptCorners.{AttemptCorners}
+use Rattle.niss_embed.specs.declared.steps.sets.StepSet.{StepSet}
+use Rattle.niss_embed.specs.declared.steps.dead.Depth.TheVariants.{Out}
 use Rattle.niss_embed.specs.DeadSteps.{AreParted, IsDead, StandsNowhere, after_bytes}
 use Rattle.niss_embed.specs.Parts.{steps_line, step_with}
 

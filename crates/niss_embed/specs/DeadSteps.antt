@@ -3,9 +3,9 @@ use Rattle.std.specs.Prelude.{◌≡◌, ℕ, ◌+◌, ◌<◌, ◌⊎◌, List,
 use Rattle.niss_moves.specs.Machine.{State, run, start}
 use Rattle.niss_moves.specs.declared.fault.ReadFault.{ReadFault}
 use Rattle.niss_moves.specs.declared.partial_line.LastMove.TheVariants.{Finished}
-use Rattle.niss_embed.specs.declared.dead_steps.Depth.{Depth}
-use Rattle.niss_embed.specs.declared.dead_steps.Depth.TheVariants.{Out, In, Wrong}
-use Rattle.niss_embed.specs.declared.step_reading.Reading.{Reading}
+use Rattle.niss_embed.specs.declared.steps.dead.Depth.{Depth}
+use Rattle.niss_embed.specs.declared.steps.dead.Depth.TheVariants.{Out, In, Wrong}
+use Rattle.niss_embed.specs.declared.steps.reading.Reading.{Reading}
 use Rattle.niss_embed.specs.Parts.{read_byte}
 
 -- Bytes have a fault before their end.

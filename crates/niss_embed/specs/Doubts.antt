@@ -8,7 +8,7 @@ use Rattle.niss_text.specs.declared.text_line.TextLine.{TextLine}
 use Rattle.niss_embed.specs.declared.doubts.Doubt.{Doubt}
 use Rattle.niss_embed.specs.declared.doubts.Reason.{Reason}
 use Rattle.niss_embed.specs.declared.doubts.Reason.TheVariants.{OfLine, AnotherScramble, SeveralSolutions, Comment, Insertion, Part, WhichScramble, StepOrScramble, Signs, AnotherAttempt}
-use Rattle.niss_embed.specs.declared.written.NoRoom.{NoRoom}
+use Rattle.niss_embed.specs.declared.attempts.written.NoRoom.{NoRoom}
 
 -- the place of what has none in the text
 abbrev pub no_place : ℕ

@@ -64,7 +64,7 @@ answer_for (Unread fault) =
 answer_for TooLong = plain_answer status.Stopped 0
 answer_for Misused = plain_answer status.Usage 0
 
--- the buffer afterwards: the text and what stood behind it, or what it was
+-- the buffer afterwards: the text and what stood after it, or what it was
 abbrev pub buffer_after : Outcome → List ℕ → List ℕ
 buffer_after (Written text) out = text ++ drop (length text) out
 buffer_after (ShortOfRoom text) out = out

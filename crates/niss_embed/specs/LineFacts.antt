@@ -18,9 +18,9 @@ use Rattle.niss_shell.specs.Words.{most_bytes}
 use Rattle.niss_embed.specs.LineCalls.{status_number, fault_number}
 use Rattle.niss_embed.specs.declared.answer.Status.{Status}
 use Rattle.niss_embed.specs.declared.answer.Status.TheVariants.{Done, Fault, Stopped}
-use Rattle.niss_embed.specs.declared.fact_answers.AxisFacts.{AxisFacts}
-use Rattle.niss_embed.specs.declared.fact_answers.FactsAnswer.{FactsAnswer}
-use Rattle.niss_embed.specs.declared.fact_answers.CheckAnswer.{CheckAnswer}
+use Rattle.niss_embed.specs.declared.line.fact_answers.AxisFacts.{AxisFacts}
+use Rattle.niss_embed.specs.declared.line.fact_answers.FactsAnswer.{FactsAnswer}
+use Rattle.niss_embed.specs.declared.line.fact_answers.CheckAnswer.{CheckAnswer}
 
 -- an answer that tells of no cube
 abbrev pub no_axis : AxisFacts

@@ -21,11 +21,11 @@ use Rattle.niss_embed.specs.Memory.{Memory, Puts}
 use Rattle.niss_embed.specs.LineCalls.{status_number, fault_number}
 use Rattle.niss_embed.specs.declared.answer.Status.{Status}
 use Rattle.niss_embed.specs.declared.answer.Status.TheVariants.{Done, Fault, Usage, Stopped, NoRoom, Cut}
-use Rattle.niss_embed.specs.declared.line_search.Bounds.{Bounds}
-use Rattle.niss_embed.specs.declared.line_search.Wanted.{Wanted}
-use Rattle.niss_embed.specs.declared.search_answer.SearchAnswer.{SearchAnswer}
+use Rattle.niss_embed.specs.declared.line.search.Bounds.{Bounds}
+use Rattle.niss_embed.specs.declared.line.search.Wanted.{Wanted}
+use Rattle.niss_embed.specs.declared.line.search_answer.SearchAnswer.{SearchAnswer}
 
--- The lines that are written into some memory and what is free behind them, how many they are and may be, how many
+-- The lines that are written into some memory and what is free after them, how many they are and may be, how many
 -- turns the first solution has that came, and whether one had no room.
 pub record LinesState : Type 0 where
   pub reference : ℕ

@@ -17,8 +17,8 @@ use Rattle.niss_embed.specs.TwoLines as two
 use Rattle.niss_embed.specs.TwoLines.{Stands, both_of, nowhere_status, nowhere_line, nowhere_fault, nowhere_column}
 use Rattle.niss_embed.specs.declared.answer.Status.{Status}
 use Rattle.niss_embed.specs.declared.answer.Status.TheVariants.{Done, Usage, Cut}
-use Rattle.niss_embed.specs.declared.sides_answer.SidesAnswer.{SidesAnswer}
-use Rattle.niss_embed.specs.declared.sides_answer.SidesWanted.{SidesWanted}
+use Rattle.niss_embed.specs.declared.two_lines.sides_answer.SidesAnswer.{SidesAnswer}
+use Rattle.niss_embed.specs.declared.two_lines.sides_answer.SidesWanted.{SidesWanted}
 use Rattle.niss_embed.specs.declared.two_lines.Nowhere.{Nowhere}
 use Rattle.niss_embed.specs.declared.two_lines.Nowhere.TheVariants.{TooMany, NoStart}
 

@@ -4,12 +4,12 @@ use Rattle.niss_shell.specs.Lines.{ended_lines, last_part}
 use Rattle.niss_shell.specs.Names.{Step}
 use Rattle.niss_shell.specs.Output.{line_with_bytes}
 use Rattle.niss_embed.specs.LineSearch.{CountsLine}
-use Rattle.niss_embed.specs.declared.line_search.Wanted.{Wanted}
+use Rattle.niss_embed.specs.declared.line.search.Wanted.{Wanted}
 use Rattle.niss_embed.specs.LineFacts.{facts_of}
 use Rattle.niss_embed.specs.LineCalls.{status_number}
-use Rattle.niss_embed.specs.declared.search_answer.SearchAnswer.{SearchAnswer}
-use Rattle.niss_embed.specs.declared.fact_answers.FactsAnswer.{FactsAnswer}
-use Rattle.niss_embed.specs.declared.fact_answers.LinesAnswer.{LinesAnswer}
+use Rattle.niss_embed.specs.declared.line.search_answer.SearchAnswer.{SearchAnswer}
+use Rattle.niss_embed.specs.declared.line.fact_answers.FactsAnswer.{FactsAnswer}
+use Rattle.niss_embed.specs.declared.line.fact_answers.LinesAnswer.{LinesAnswer}
 use Rattle.niss_embed.specs.declared.answer.Status.TheVariants.{Done, Usage}
 
 -- the lines of a text, as the program reads them: those that a line feed ends, and what stands after the last one if it
@@ -22,10 +22,10 @@ abbrev pub taken : (lines bytes : ℕ) → LinesAnswer
 taken lines bytes = record { status = status_number Done; lines = lines; bytes = bytes }
 
 module _ {T : Type 0} (answers : List ℕ → T → Type 0) where
-  -- The answers to these lines stand in the room, and what is behind them is as it was.
+  -- The answers to these lines stand in the room, and what is after them is as it was.
   pub record AnswersFirst (lines : List (List ℕ)) (before after : List T) : Type 0 where
     pub each : (i : ℕ) (other : T) → i < length lines → answers (get_or lines i []) (get_or after i other)
-    pub behind : drop (length lines) after ≡ drop (length lines) before
+    pub after_them : drop (length lines) after ≡ drop (length lines) before
     pub same_length : length after ≡ length before
 
   -- So many lines of a text are answered, which are so many bytes of it: all lines, or as many as there is room for.

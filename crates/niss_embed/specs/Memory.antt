@@ -11,7 +11,7 @@ pub record Memory : Type 0 where
 abbrev pub memory : List ℕ → List ℕ → Memory
 memory before after = record { before = before; after = after }
 
--- The text stands at the beginning, as much of it as there is room for, and what is behind it is left as it was.
+-- The text stands at the beginning, as much of it as there is room for, and what is after it is left as it was.
 -- `count` bytes were written, and the room was too small or wasn't.
 pub record Puts (text : List ℕ) (room : Memory) (count : ℕ) (too_small : Bool) : Type 0 where
   pub written : room.after ≡ take (length room.before) text ++ drop (length text) room.before
@@ -37,7 +37,7 @@ lent bytes reference written refused =
 abbrev pub shown_output : Lent → TargetState
 shown_output memory = target_state (Some (take memory.written memory.bytes)) memory.refused
 
--- These bytes were appended to what is written, and what is behind them is left as it was.
+-- These bytes were appended to what is written, and what is after them is left as it was.
 pub record Appended (part : List ℕ) (old new : Lent) : Type 0 where
   pub text : take new.written new.bytes ≡ take old.written old.bytes ++ part
   pub left : drop new.written new.bytes ≡ drop (length part) (drop old.written old.bytes)

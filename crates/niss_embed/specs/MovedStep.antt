@@ -8,10 +8,10 @@ use Rattle.niss_embed.specs.Corners.{Reads}
 use Rattle.niss_embed.specs.Parts.{number_of_steps, solves_line, steps_line}
 use Rattle.niss_embed.specs.TurnedCube.{IsAtFirst}
 use Rattle.niss_embed.specs.declared.doubts.Doubt.{Doubt}
-use Rattle.niss_embed.specs.declared.moved_step.Exchange.{Exchange}
-use Rattle.niss_embed.specs.declared.moved_step.Stretches.{Stretches}
-use Rattle.niss_embed.specs.declared.step_corners.StepCorners.{StepCorners}
-use Rattle.niss_embed.specs.declared.whole_steps.WholeSteps.{WholeSteps}
+use Rattle.niss_embed.specs.declared.doubts.moved_step.Exchange.{Exchange}
+use Rattle.niss_embed.specs.declared.doubts.moved_step.Stretches.{Stretches}
+use Rattle.niss_embed.specs.declared.steps.corners.StepCorners.{StepCorners}
+use Rattle.niss_embed.specs.declared.steps.WholeSteps.{WholeSteps}
 
 -- bytes with a blank after them
 abbrev pub with_blank : List ℕ → List ℕ

@@ -11,15 +11,15 @@ use Rattle.niss_embed.specs.LineCalls.{status_number}
 use Rattle.niss_embed.specs.LineFacts.{is_small_letter}
 use Rattle.niss_embed.specs.declared.answer.Status.{Status}
 use Rattle.niss_embed.specs.declared.answer.Status.TheVariants.{Done, Stopped}
-use Rattle.niss_embed.specs.declared.parts.How.{How}
-use Rattle.niss_embed.specs.declared.parts.How.TheVariants.{Alone, LeftOut, InBrackets}
-use Rattle.niss_embed.specs.declared.step_reading.Reading.{Reading}
-use Rattle.niss_embed.specs.declared.step_reading.Reading.TheVariants.{AsWritten, WithoutBrackets, InCapitals}
-use Rattle.niss_embed.specs.declared.parts.Part.{Part}
-use Rattle.niss_embed.specs.declared.parts.Found.{Found}
-use Rattle.niss_embed.specs.declared.parts.Found.TheVariants as found
-use Rattle.niss_embed.specs.declared.parts.PartAnswer.{PartAnswer}
-use Rattle.niss_embed.specs.declared.step_sets.StepSet.{StepSet}
+use Rattle.niss_embed.specs.declared.steps.parts.How.{How}
+use Rattle.niss_embed.specs.declared.steps.parts.How.TheVariants.{Alone, LeftOut, InBrackets}
+use Rattle.niss_embed.specs.declared.steps.reading.Reading.{Reading}
+use Rattle.niss_embed.specs.declared.steps.reading.Reading.TheVariants.{AsWritten, WithoutBrackets, InCapitals}
+use Rattle.niss_embed.specs.declared.steps.parts.Part.{Part}
+use Rattle.niss_embed.specs.declared.steps.parts.Found.{Found}
+use Rattle.niss_embed.specs.declared.steps.parts.Found.TheVariants as found
+use Rattle.niss_embed.specs.declared.steps.parts.PartAnswer.{PartAnswer}
+use Rattle.niss_embed.specs.declared.steps.sets.StepSet.{StepSet}
 
 -- how many steps are looked at, of how many of them sets are tried, and how many bytes they have at most
 abbrev pub most_steps : ℕ

@@ -2,7 +2,7 @@
 use Rattle.std.specs.Prelude.{◌≡◌, ℕ, zero, suc, ◌<◌, ◌≤◌, ◌≢◌, ⊤, Option, None, Some, List, [], ◌∷◌, length}
 use Rattle.niss_text.specs.declared.text_line.TextLine.{TextLine}
 use Rattle.niss_embed.specs.Attempts.{attempts_from}
-use Rattle.niss_embed.specs.declared.runs.Run.{Run}
+use Rattle.niss_embed.specs.declared.attempts.runs.Run.{Run}
 
 -- The first ones of some lines, that many, are of an attempt, and the next one isn't.
 abbrev pub Alike : ℕ → ℕ → List TextLine → Type 0

@@ -17,7 +17,7 @@ use Rattle.niss_embed.specs.Blanks.{last_of_moves, last_place, place_if}
 use Rattle.niss_embed.specs.Doubts.{doubt}
 use Rattle.niss_embed.specs.declared.doubts.Doubt.{Doubt}
 use Rattle.niss_embed.specs.declared.doubts.Reason.TheVariants.{Insertion, Comment, Signs}
-use Rattle.niss_embed.specs.declared.shown_turn.Border.{Border}
+use Rattle.niss_embed.specs.declared.doubts.shown_turn.Border.{Border}
 
 -- what stands after the letter of a turn, or a blank
 abbrev pub suffix_byte : Power → ℕ

@@ -19,8 +19,8 @@ use Rattle.niss_embed.specs.Memory.{Memory}
 use Rattle.niss_embed.specs.LineCalls.{status_number}
 use Rattle.niss_embed.specs.LineSearch.{Hands, Only, unsolved, all_found, looks_for_all, capped, number_of_fault, column_of_fault}
 use Rattle.niss_embed.specs.declared.answer.Status.TheVariants.{Fault, Usage, Stopped, Cut}
-use Rattle.niss_embed.specs.declared.line_search.Wanted.{Wanted}
-use Rattle.niss_embed.specs.declared.search_answer.SearchAnswer.{SearchAnswer}
+use Rattle.niss_embed.specs.declared.line.search.Wanted.{Wanted}
+use Rattle.niss_embed.specs.declared.line.search_answer.SearchAnswer.{SearchAnswer}
 
 -- the line of these turns, outside brackets
 abbrev pub line_of_turns : List Turn → Moves

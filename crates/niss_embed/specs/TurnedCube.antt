@@ -17,10 +17,10 @@ use Rattle.niss_embed.specs.Parts.{number_of_steps}
 use Rattle.niss_embed.specs.ShownTurn.{step_at, suffix_byte}
 use Rattle.niss_embed.specs.declared.doubts.Doubt.{Doubt}
 use Rattle.niss_embed.specs.declared.doubts.Reason.TheVariants.{Insertion}
-use Rattle.niss_embed.specs.declared.holds.Hold.{Hold}
-use Rattle.niss_embed.specs.declared.holds.TheConstants.{HOLDS}
-use Rattle.niss_embed.specs.declared.step_corners.Around.{Around}
-use Rattle.niss_embed.specs.declared.turned_cube.Sides.{Sides}
+use Rattle.niss_embed.specs.declared.doubts.turned_cube.holds.Hold.{Hold}
+use Rattle.niss_embed.specs.declared.doubts.turned_cube.holds.TheConstants.{HOLDS}
+use Rattle.niss_embed.specs.declared.steps.corners.Around.{Around}
+use Rattle.niss_embed.specs.declared.doubts.turned_cube.Sides.{Sides}
 
 -- the letter of a rotation about an axis, and what stands after it, or blanks
 abbrev pub letter_if : Option (Axis × Power) → ℕ

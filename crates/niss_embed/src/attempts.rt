@@ -6,18 +6,26 @@ ghost use Rattle.niss_embed.specs.Attempts.{IsChecked, IsDoubt, IsOwn, fault_pla
 ghost use Rattle.niss_embed.specs.Attempts.{IsDoubtOfSolved, IsDoubtOfSteps, IsDoubtOfUnsolved, IsDoubtThoughSolved, IsOfRest};
 ghost use Rattle.niss_embed.specs.Doubts.{IsOkIfRoom};
 
-use crate::another::doubt_of_another;
-use crate::beside::doubt_beside;
+pub(crate) mod checks;
+pub(crate) mod judged;
+pub(crate) mod known_parts;
+mod runs;
+pub(crate) mod step_lines;
+mod told;
+pub(crate) mod written;
+
+use crate::attempts::judged::Judged;
+use crate::attempts::step_lines::has_solution;
+use crate::attempts::told::Told;
+use crate::attempts::written::{NONE, NoRoom, moves_of, place_at};
+use crate::doubts::another::doubt_of_another;
+use crate::doubts::beside::doubt_beside;
+use crate::doubts::inner_attempt::doubt_within;
+use crate::doubts::whole_doubt::doubt_of_whole;
 use crate::doubts::{Doubt, Reason, first_doubt, first_stray};
-use crate::fact_answers::CheckAnswer;
-use crate::inner_attempt::doubt_within;
-use crate::judged::Judged;
-use crate::line_facts::check_line;
-use crate::parts::solving_part;
-use crate::step_lines::has_solution;
-use crate::told::Told;
-use crate::whole_doubt::doubt_of_whole;
-use crate::written::{NONE, NoRoom, moves_of, place_at};
+use crate::line::fact_answers::CheckAnswer;
+use crate::line::facts::check_line;
+use crate::steps::parts::solving_part;
 use niss_text::{MovesOf, TextLine};
 
 /// How the check of an attempt ended.
@@ -80,11 +88,10 @@ fn doubt_of_steps(
     ensures room { IsOkIfRoom (most_bytes lines.now) out.old places.old result }
 {
     let count = moves_of(text, lines, MovesOf::EachStep, out, places)?;
-    let part = solving_part(scramble, &out[..count]);
-    match Doubt::of_part(&part, &places[..count]) {
-        Some(doubt) => Ok(Some(doubt)),
-        None => Ok(doubt_of_whole(scramble, &out[..count], text, lines)),
-    }
+    let steps = &out[..count];
+    let part = solving_part(scramble, steps);
+    let of_part = Doubt::of_part(&part, &places[..count]);
+    Ok(of_part.or_else(|| doubt_of_whole(scramble, steps, text, lines)))
 }
 
 impl Given<'_> {

@@ -97,7 +97,7 @@ fn refuse_memory(out: &mut [u8], err: &mut [u8]) -> Answer
 /// the tables of a step take memory of `alloc`; all else is on the stack, and nothing is kept after the call.
 ///
 /// An output that is longer than `out` ends the run as `nissy` ends if it can't write, with the status 3: then `out`
-/// is full, and `out_too_small` says so. A caller that wants the whole output tries again with more. What is behind the
+/// is full, and `out_too_small` says so. A caller that wants the whole output tries again with more. What is after the
 /// written bytes is left as it was.
 pub fn run_bytes<A: Allocator + Copy>(
     alloc: A,

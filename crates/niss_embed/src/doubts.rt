@@ -4,8 +4,18 @@ ghost use Rattle.niss_embed.specs.Another.{begun_in};
 ghost use Rattle.niss_embed.specs.Attempts.{doubt_of_part, first_doubt, first_stray};
 ghost use Rattle.niss_embed.specs.Doubts.{number_of};
 
-use crate::parts::PartAnswer;
-use crate::written::place_at;
+pub(crate) mod another;
+pub(crate) mod beside;
+pub(crate) mod inner_attempt;
+mod lost_turn;
+mod moved_step;
+mod shown_turn;
+mod turn_words;
+mod turned_cube;
+pub(crate) mod whole_doubt;
+
+use crate::attempts::written::place_at;
+use crate::steps::parts::PartAnswer;
 use niss_text::TextLine;
 
 /// Why one doubts it.

@@ -4,8 +4,13 @@ ghost use Rattle.niss_moves.specs.Reader.{IsFed};
 ghost use Rattle.niss_embed.specs.TwoLines.{both, both_of, StartsAfter};
 ghost use Rattle.niss_embed.specs.TwoLines.{nowhere_status, nowhere_line, nowhere_fault, nowhere_column};
 
+pub(crate) mod best;
+pub(crate) mod sides;
+pub(crate) mod sides_answer;
+pub(crate) mod ways_answer;
+
 use crate::answer::{Status, fault_number};
-use crate::line_texts::read_by;
+use crate::line::texts::read_by;
 use niss_moves::{LineReader, Niss, ReadFault};
 use niss_shell::MOST_BYTES;
 use niss_ways::Start;

@@ -6,6 +6,8 @@ use crate::room::Room;
 use bumpalo::Bump;
 use niss_cube::Step;
 use niss_search::{Meter, Tables};
+use std::mem::ManuallyDrop;
+use std::ops::Deref;
 
 /// What an arena takes at most beside the bytes that it is asked for: it adds its footer, and goes up to whole pages.
 const BESIDE: usize = 4160;
@@ -62,15 +64,18 @@ fn arena_over(
     place.as_ref()
 }
 
-/// Tables that stay in an arena.
+/// Tables that stay in an arena, which gives nothing back: so they aren't dropped if they get no place.
 pub(crate) fn tables_in(arena: &'static Arena, step: Step) -> Option<&'static LentTables>
     ensures { IfSome result (λ tables. tables.now ≡ step) }
 {
     let Ok(tables) = Tables::build_in(arena, step, &mut Meter::new()) else {
         return None;
     };
-    match Box::new(arena, tables) {
-        Ok(tables) => Some(Box::leak(tables)),
+    match Box::new(arena, unsafe { ManuallyDrop::new_unchecked(tables) }) {
+        Ok(place) => {
+            let kept: &'static ManuallyDrop<LentTables> = Box::leak(place);
+            Some(kept.deref())
+        }
         Err(_) => None,
     }
 }

@@ -1,6 +1,6 @@
 -- The search over both sides part by part: how a sink goes through pairs, what is done for heads, and that all of it is the pairs
 -- of a length, by their looks.
-use Rattle.niss_search.proofs.Words.{◌≡◌, arith, ◌+◌, ◌<◌, ◌-◌, ℕ, suc, zero, ap, ◌∙◌, sym, refl, subst, Bool, true, false, ◌&&◌, ◌||◌, cond, nat_le}
+use Rattle.niss_search.proofs.Words.{◌≡◌, arith, ◌+◌, ◌<◌, ◌≤◌, ◌-◌, ℕ, suc, zero, ap, ◌∙◌, sym, refl, subst, Bool, true, false, ◌&&◌, ◌||◌, cond, nat_le}
 use Rattle.niss_search.proofs.Words.{List, [], ◌∷◌, ◌++◌, length, map, filter, flat_map, sum_by, take, drop, get_or, length-append, append-nil}
 use Rattle.niss_search.proofs.Words.{flat_map-append, sum_by-append, sum_by-cons, range_with_len, up_to, take-append-drop, drop_more, all_canonical, below}
 use Rattle.niss_search.proofs.Words.{Turn, Step, Place, Follower, turns_of, after_all, reached, reaching, may_follow, last_turn}
@@ -17,11 +17,14 @@ use Rattle.niss_search.proofs.DepthFirst.{below-all}
 use Rattle.niss_search.proofs.DescentParts.{WentThrough-append, EndedIn-after, EndedIn-before}
 use Rattle.niss_search.proofs.InverseLemmas.{apart}
 use Rattle.niss_search.proofs.Words.{Result, Ok, Err}
-use Rattle.niss_search.specs.BothSides.{Pair, reaches, ends_idle, pairs_of_lengths, splits, HandedOut, HandsOut, StoppedEarly}
+use Rattle.niss_search.specs.BothSides.{Pair, reaches, ends_idle, pairs_of_lengths, splits, HandedOut}
 unfoldable use Rattle.niss_search.specs.BothSides.{pairs_with, looks_with, least_pair_length, pair_solutions, pair_looks}
 use Rattle.niss_search.specs.BothSides.{looks_of_lengths, first_pairs, leaves_out, skips}
 use Rattle.niss_search.proofs.IdleHeads.{idle_head, left_head}
 use Rattle.niss_cube.specs.StepLaws.{IdleTurnsLeaveSteps}
+use Rattle.niss_search.specs.Budgets.{is_cut_in}
+use Rattle.niss_search.specs.declared.budget.Stopped.{Stopped}
+use Rattle.niss_search.specs.BothWalk.{HasSearched, once_looked, part_of_length, part_of_search}
 use Rattle.niss_search.specs.BothWalk.{PairPart, parts, kept, is_kept, ends_here, after_head, part_of_lengths, on_side, on_other, join}
 unfoldable use Rattle.niss_search.specs.BothWalk.{after_heads}
 use Rattle.niss_search.specs.declared.searching.both.Ends.{Ends}
@@ -31,32 +34,46 @@ use Rattle.niss_search.specs.declared.searching.both.splitting.Side.{Side}
 use Rattle.niss_search.specs.declared.searching.both.splitting.Side.TheVariants.{Normal, Inverse}
 
 -- One part after another.
-module _ {K : Type 0} (took refused : K → Pair → K → Type 0) where
-  pub none_yet : (m : ℕ) (s : K) → HandedOut took refused [] 0 m m s s 0
-  none_yet m s = record { taken = refl; counted = refl; looked = omega arith }
+module _ {K : Type 0} (took refused : K → Pair → K → Type 0) (bound : ℕ) where
+  -- What is done of a part: the meter is within the bound, and no more was counted than looked at.
+  pub record HasDone (part : PairPart) (m n : ℕ) (s t : K) (c : ℕ) : Type 0 where
+    pub handed : HandedOut took refused part.pairs part.looks m n s t c
+    pub counted : m + c ≤ n
+    pub within : n ≤ bound
 
-  -- the same of a part that is the same
-  pub same_went : (p q : PairPart) → p ≡ q → {m o c : ℕ} {s u : K} → HandedOut took refused q.pairs q.looks m o s u c → HandedOut took refused p.pairs p.looks m o s u c
-  same_went p q e {m} {o} {c} {s} {u} h = subst (λ (r : PairPart). HandedOut took refused r.pairs r.looks m o s u c) (sym e) h
+  pub done-none : (m : ℕ) (s : K) → m ≤ bound → HasDone (record { pairs = []; looks = 0 }) m m s s 0
+  done-none m s within = record { handed = record { taken = refl; counted = refl; looked = omega arith }; counted = omega arith; within = within }
 
-  pub same_stopped : (p q : PairPart) → p ≡ q → {m o : ℕ} {s u : K} {cut : Bool} {bound : ℕ} → StoppedEarly took refused q.pairs q.looks m o s u cut bound → StoppedEarly took refused p.pairs p.looks m o s u cut bound
-  same_stopped p q e {m} {o} {s} {u} {cut} {bound} h = subst (λ (r : PairPart). StoppedEarly took refused r.pairs r.looks m o s u cut bound) (sym e) h
+  module _ (step : Step) {F T : Type 0} (count : T → ℕ) where
+    abbrev Searched : PairPart → (m n : ℕ) (s t : K) → Result T (Stopped F) → Type 0
+    Searched part m n s t said = HasSearched took refused bound step count part 0 m n s t said
 
-  module _ (p q : PairPart) {m n o c : ℕ} {s t u : K} (went : HandedOut took refused p.pairs p.looks m n s t c) where
-    then_went : {d : ℕ} → HandedOut took refused q.pairs q.looks n o t u d → HandedOut took refused (p.pairs ++ q.pairs) (p.looks + q.looks) m o s u (c + d)
-    then_went h = record {
-      taken = WentThrough-append took refused s t u p.pairs q.pairs went.taken h.taken;
-      counted = omega (arith, went.counted, h.counted, length-append p.pairs q.pairs);
-      looked = omega (arith, went.looked, h.looked);
+    pub done-all : (p q : PairPart) → p ≡ q → {m n : ℕ} {s t : K} (v : T) → HasDone q m n s t (count v) → Searched p m n s t (Ok v)
+    done-all p q e {m} {n} {s} {t} v h =
+        subst (λ (r : PairPart). Searched r m n s t (Ok v)) (sym e) (record { handed = h.handed; counted = omega (arith, h.counted); within = h.within; spent = tt })
+
+    pub searched-same : (p q : PairPart) → p ≡ q → {m n : ℕ} {s t : K} (said : Result T (Stopped F)) → Searched q m n s t said → Searched p m n s t said
+    searched-same p q e {m} {n} {s} {t} said h = subst (λ (r : PairPart). Searched r m n s t said) (sym e) h
+
+    -- what is done once a first look was made, with that
+    pub look_first : (part : PairPart) {m n o : ℕ} {s t : K} (said : Result T (Stopped F)) → 0 < part.looks → n ≡ m + 1
+        → HasSearched took refused bound step count (once_looked part) 1 n o s t said → Searched part m o s t said
+    look_first part (Ok v) some tick h = record {
+      handed = record { taken = h.handed.taken; counted = h.handed.counted; looked = omega (arith, h.handed.looked, some, tick) };
+      counted = omega (arith, h.counted, tick);
+      within = h.within;
+      spent = tt;
     }
-
-    then_stopped : (rest : PairPart) {cut : Bool} {bound : ℕ} → StoppedEarly took refused q.pairs q.looks n o t u cut bound
-        → StoppedEarly took refused (p.pairs ++ (q.pairs ++ rest.pairs)) (p.looks + (q.looks + rest.looks)) m o s u cut bound
-    then_stopped rest {cut} h = record {
-      taken = EndedIn-after took refused cut s t u p.pairs (q.pairs ++ rest.pairs) went.taken (EndedIn-before took refused cut t u q.pairs rest.pairs h.taken);
-      over = λ is. omega (arith, went.looked, h.over is);
-      rises = omega (arith, went.looked, h.rises);
-      looked = omega (arith, went.looked, h.looked);
+    look_first part (Err stop) some tick h = record {
+      handed = record {
+        taken = h.handed.taken;
+        over = λ cut. omega (arith, h.handed.over cut, some, tick);
+        rises = omega (arith, h.handed.rises, tick);
+        looked = omega (arith, h.handed.looked, some, tick);
+      };
+      counted = tt;
+      within = h.within;
+      spent = h.spent;
     }
 
   module _ {X : Type 0} (part : X → PairPart) (xs : List X) (x : X) where
@@ -73,29 +90,31 @@ module _ {K : Type 0} (took refused : K → Pair → K → Type 0) where
       looks = (sum_by-append (λ y. (part y).looks) xs (x ∷ ys) ∙ ap (λ k. (parts part xs).looks + k) (sum_by-cons (λ y. (part y).looks) x ys)) i;
     }
 
-    module _ {m n o c : ℕ} {s t u : K} (went : HandedOut took refused (parts part xs).pairs (parts part xs).looks m n s t c) where
-      pub parts_more : {d : ℕ} → HandedOut took refused (part x).pairs (part x).looks n o t u d
-          → HandedOut took refused (parts part (xs ++ x ∷ [])).pairs (parts part (xs ++ x ∷ [])).looks m o s u (c + d)
-      parts_more {d} h =
-          same_went (parts part (xs ++ x ∷ [])) _ parts-push (then_went (parts part xs) (part x) went h)
+    module _ {m n o c : ℕ} {s t u : K} (done : HasDone (parts part xs) m n s t c) (step : Step) {F : Type 0} where
+      pub parts_more : (d : ℕ) → HasSearched {F = F} took refused bound step (λ (k : ℕ). k) (part x) 0 n o t u (Ok d) → HasDone (parts part (xs ++ x ∷ [])) m o s u (c + d)
+      parts_more d h = subst (λ (r : PairPart). HasDone r m o s u (c + d)) (sym parts-push) record {
+        handed = record {
+          taken = WentThrough-append took refused s t u (parts part xs).pairs (part x).pairs done.handed.taken h.handed.taken;
+          counted = omega (arith, done.handed.counted, h.handed.counted, length-append (parts part xs).pairs (part x).pairs);
+          looked = omega (arith, done.handed.looked, h.handed.looked);
+        };
+        counted = omega (arith, done.counted, h.counted);
+        within = h.within;
+      }
 
-      pub parts_stop : (ys : List X) {cut : Bool} {bound : ℕ} → StoppedEarly took refused (part x).pairs (part x).looks n o t u cut bound
-          → StoppedEarly took refused (parts part (xs ++ x ∷ ys)).pairs (parts part (xs ++ x ∷ ys)).looks m o s u cut bound
-      parts_stop ys {cut} {bound} h =
-          same_stopped (parts part (xs ++ x ∷ ys)) _ (parts-split ys) (then_stopped (parts part xs) (part x) went (parts part ys) h)
-
--- what is done after a first look, with that
-pub look_first : {K T E : Type 0} (took refused : K → Pair → K → Type 0) (pairs : List Pair) (looks meter looked meter_now : ℕ) (sink sink_now : K) (is_cut : E → Bool) (bound : ℕ) (count : T → ℕ) (r : Result T E)
-    → 0 < looks → looked ≡ meter + 1 → HandsOut took refused pairs (looks - 1) looked meter_now sink sink_now is_cut bound count r
-    → HandsOut took refused pairs looks meter meter_now sink sink_now is_cut bound count r
-look_first took refused pairs looks meter looked meter_now sink sink_now is_cut bound count (Ok value) some tick h =
-    record { taken = h.taken; counted = h.counted; looked = omega (arith, h.looked, some, tick) }
-look_first took refused pairs looks meter looked meter_now sink sink_now is_cut bound count (Err stop) some tick h = record {
-  taken = h.taken;
-  over = λ cut. omega (arith, h.over cut, some, tick);
-  rises = omega (arith, h.rises, tick);
-  looked = omega (arith, h.looked, some, tick);
-}
+      pub parts_stop : {T : Type 0} (count : T → ℕ) (ys : List X) (stop : Stopped F) → HasSearched took refused bound step (λ (k : ℕ). k) (part x) 0 n o t u (Err stop)
+          → HasSearched took refused bound step count (parts part (xs ++ x ∷ ys)) 0 m o s u (Err stop)
+      parts_stop count ys stop h = searched-same step count _ _ (parts-split ys) (Err stop) record {
+        handed = record {
+          taken = EndedIn-after took refused (is_cut_in stop) s t u (parts part xs).pairs ((part x).pairs ++ (parts part ys).pairs) done.handed.taken (EndedIn-before took refused (is_cut_in stop) t u (part x).pairs (parts part ys).pairs h.handed.taken);
+          over = λ is. omega (arith, done.handed.looked, h.handed.over is);
+          rises = omega (arith, done.handed.looked, h.handed.rises);
+          looked = omega (arith, done.handed.looked, h.handed.looked);
+        };
+        counted = tt;
+        within = h.within;
+        spent = h.spent;
+      }
 
 -- a list to an element, and from there on
 pub list_split : {X : Type 0} (xs : List X) (i : ℕ) (d : X) → i < length xs → xs ≡ take i xs ++ get_or xs i d ∷ drop (i + 1) xs
@@ -273,14 +292,11 @@ module _ (ends : Ends) (step : Step) (e : Place → Place) where
     by_test true is = rw is (start-looks Normal j i)
     by_test false is = rw is (start-looks Inverse i j)
 
-  -- what is done for a length, and for so many of its turns on the normal side
-  abbrev pub part_of_length : Sides → ℕ → PairPart
-  part_of_length sides n = record { pairs = pairs_with step e ends sides n; looks = looks_with step e ends sides n }
-
+  -- what is done for so many of the turns of a length on the normal side
   abbrev pub part_of_split : ℕ → ℕ → PairPart
   part_of_split n i = part_of_lengths ends step e i (n - i)
 
-  pub length-parts : IdleTurnsLeaveSteps → (sides : Sides) (n : ℕ) → part_of_length sides n ≡ parts (part_of_split n) (splits sides n)
+  pub length-parts : IdleTurnsLeaveSteps → (sides : Sides) (n : ℕ) → part_of_length ends step e sides n ≡ parts (part_of_split n) (splits sides n)
   unfolding pairs_with looks_with
   length-parts law sides n = λ i. record {
     pairs = (filter-flat_map first (λ k. pairs_of_lengths (turns_of step) k (n - k)) (splits sides n) ∙ sym (λ j. flat_map (λ k. lengths-pairs law k (n - k) j) (splits sides n))) i;
@@ -289,10 +305,7 @@ module _ (ends : Ends) (step : Step) (e : Place → Place) where
 
 -- and up to the last length
 module _ (step : Step) (e : Place → Place) where
-  abbrev pub whole : Sides → (n slack : ℕ) → PairPart
-  whole sides n slack = record { pairs = pair_solutions step e sides n slack; looks = pair_looks step e sides n slack }
-
-  pub whole-parts : (sides : Sides) (n slack : ℕ) → whole sides n slack ≡ parts (part_of_length Any step e sides) (up_to (last_length (least_of (first_pairs step e sides) n) n slack))
+  pub whole-parts : (sides : Sides) (n slack : ℕ) → part_of_search step e sides n slack ≡ parts (part_of_length Any step e sides) (up_to (last_length (least_of (first_pairs step e sides) n) n slack))
   unfolding pair_solutions pair_looks least_pair_length
   whole-parts sides n slack = λ i. record { pairs = from_least-all (first_pairs step e sides) n slack i; looks = pair_looks step e sides n slack }
 

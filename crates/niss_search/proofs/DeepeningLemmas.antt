@@ -7,7 +7,9 @@ use Rattle.niss_search.proofs.Words.{at_limit, min, HasPosition, append-nil, nat
 use Rattle.niss_search.proofs.Words.{PositionsFollowCubes, Result, all_looks, progress_at, OnOk, Path, StopsIn}
 use Rattle.niss_search.proofs.Words.{EndedIn, IfErr, WentThrough, near_looks_of, near_solutions_of, option_map_or, Delivers, IfOk, NoSlackIsLeast, suc}
 use Rattle.niss_search.proofs.Words.{Contains, All, All-head, All-filter, All-contains_itself, subst, after_all, then_part, deepening}
-use Rattle.niss_search.proofs.Words.{all_deepenings, distance_of, find_passes, least_of}
+use Rattle.niss_search.proofs.Words.{all_deepenings, distance_of, find_passes, least_of, Descends}
+use Rattle.niss_search.specs.Budgets.{HasSpent}
+use Rattle.niss_search.specs.Deepening.{found_by}
 use Rattle.std.specs.Prelude.{option_map, slice_get}
 use Rattle.niss_search.specs.Laws.{FirstIsLeast, FirstIsLeastIn, NoSlackIsLeastIn}
 use Rattle.niss_moves.specs.Canonical.{CanonicalMembers}
@@ -18,6 +20,23 @@ use Rattle.niss_search.proofs.ListLemmas.{range-split, sum_by-range_more, flat_m
 use Rattle.niss_search.proofs.LookLemmas.{solutions-same, all_looks-same, distance-cube}
 use Rattle.niss_search.specs.declared.searching.Outcome.{Outcome}
 use Rattle.niss_search.proofs.DescentParts.{Descends-then, StopsIn-before, for_each-append}
+
+-- What is returned of a descent that had counted nothing, by what it did.
+module _ {E : Type 0} (is_cut : E → Bool) (bound meter_now count : ℕ) where
+  pub found-delivers : {K : Type 0} (took refused : K → Path → K → Type 0) (limit : ℕ) (part : Part) (meter : ℕ) (sink sink_now : K) (said : Result (Unit {0}) E)
+      → Descends (at_limit took limit) (at_limit refused limit) part (progress_at meter 0 sink) (progress_at meter_now count sink_now) is_cut bound said
+      → Delivers took refused limit part meter meter_now sink sink_now is_cut bound (λ (n : ℕ). n) (found_by count said)
+  found-delivers took refused limit part meter sink sink_now (Ok u) made = made
+  found-delivers took refused limit part meter sink sink_now (Err stop) made =
+      record { stopped = made.stopped; rises = made.rises; looked = made.looked; over = made.over; ends = made.ends }
+
+  pub found-spent : (step : Step) (said : Result (Unit {0}) E) → HasSpent is_cut bound step meter_now said → HasSpent is_cut bound step meter_now (found_by count said)
+  found-spent step (Ok u) spent = tt
+  found-spent step (Err stop) spent = spent
+
+  pub found-is : (P : ℕ → Type 0) (said : Result (Unit {0}) E) → P count → IfOk (found_by count said) P
+  found-is P (Ok u) is = is
+  found-is P (Err stop) is = tt
 
 module _ {turns : List Turn} {S : Type 0} (space : Space turns S) (start : S) (n : ℕ) where
   -- the least length is that of the lists of each length

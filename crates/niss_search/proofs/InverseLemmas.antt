@@ -1,7 +1,7 @@
 -- A cube and its inverse: a turn on one side of one is a turn on the other side of the other. So a position follows the turns on
 -- the inverse side, by the inverse's position.
 use Rattle.niss_search.proofs.Words.{◌≡◌, refl, sym, ◌∙◌, ap, [], List, ◌∷◌, ◌++◌, Turn, Step, Place, SameMap, IsCube, cubes, positions}
-use Rattle.niss_search.proofs.Words.{after_all, reached, reaching, turned, fold-append, HasPosition, PositionsFollowCubes, TurnedIsCube}
+use Rattle.niss_search.proofs.Words.{after_all, reached, reaching, turned, fold-append, PositionsFollowCubes, TurnedIsCube}
 use Rattle.niss_search.proofs.Words.{StepsSeePlaces, GoalCoordinates, distance, distance_at, looks, ℕ}
 use Rattle.niss_search.proofs.LookLemmas.{reaching-same, looks-same, distance-same}
 use Rattle.niss_moves.specs.Effects.{inverse_turn}
@@ -18,7 +18,8 @@ use Rattle.niss_cube.specs.declared.step.Step.TheVariants.{Eofb}
 use Rattle.niss_search.proofs.Words.{subst, IsTrue}
 unfoldable use Rattle.niss_search.proofs.Words.{may_start}
 unfoldable use Rattle.niss_search.specs.Positions.{position_of}
-use Rattle.niss_search.specs.BothWalk.{IsHere, IsTailAt, TailsFollowHeads, PositionsFollowInverses, on_side, on_other}
+use Rattle.niss_search.specs.BothWalk.{IsHere, IsTailAt, TailsFollowHeads, PositionsFollowInverses, on_side, on_other, StandsAt}
+use Rattle.niss_search.specs.declared.searching.both.walk.Walk.{Walk}
 use Rattle.niss_search.specs.declared.searching.both.splitting.Side.{Side}
 use Rattle.niss_search.specs.declared.searching.both.splitting.Side.TheVariants.{Normal, Inverse}
 
@@ -136,21 +137,31 @@ tails_follow_heads law inverses taken turned_law = record {
   tail = tail-at law inverses taken turned_law;
   taken_back = λ here is. some_back law inverses taken turned_law Eofb here is;
   turned_cube = λ c t. turned_law (map_of c) t (c, λ q l. refl);
+  undone = law.redo;
   found = tails-same law inverses taken turned_law;
   looked = tail_looks-same law inverses taken turned_law;
 }
 
--- The other side's position, from a cube whose head's last turn is still to be made, and from one as it stands.
-module _ (law : TailsFollowHeads) (step : Step) (side : Side) (c here : Cube) (head : List Turn) where
-  pub tail_after : (t : Turn) (of_step : Step) (x : List GoalCoordinates) → IsHere step side (map_of c) head (λ q. turned t (map_of here q)) → IsTrue (may_start step (λ q. turned t (map_of here q)))
-      → of_step ≡ step → ((d : Cube) → IsTakenBack (λ q. turned t (map_of here q)) d → x ≡ position_of of_step (map_of d)) → IsTailAt step side (map_of c) head x
-  tail_after t of_step x is starts same at =
-      let cube : IsCube (λ q. turned t (map_of here q)) = law.turned_cube here t in
-      let back = law.taken_back (λ q. turned t (map_of here q)) cube in
-      let there : position_of step (map_of back.0) ≡ x = ap (λ s. position_of s (map_of back.0)) (sym same) ∙ sym (at back.0 back.1) in
-      subst (IsTailAt step side (map_of c) head) there (law.tail step side c head (λ q. turned t (map_of here q)) back.0 cube is starts back.1)
+-- After a head whose last turn is still to be made on a cube.
+module _ (law : TailsFollowHeads) {A : Type 0} (walk : Walk A) (head : List Turn) where
+  -- what is read from it is the other side's position
+  pub tail_after : (here : Cube) (t : Turn) (of_step : Step) (x : List GoalCoordinates) → StandsAt walk head (λ q. turned t (map_of here q)) → of_step ≡ walk.tables.now
+      → ((d : Cube) → IsTakenBack (λ q. turned t (map_of here q)) d → x ≡ position_of of_step (map_of d)) → IsTailAt walk.tables.now walk.side (map_of walk.cube.now) head x
+  tail_after here t of_step x stands same at =
+      let map : Place → Place = λ q. turned t (map_of here q) in
+      let cube : IsCube map = law.turned_cube here t in
+      let back = law.taken_back map cube in
+      let there : x ≡ position_of walk.tables.now (map_of back.0) = at back.0 back.1 ∙ ap (λ s. position_of s (map_of back.0)) same in
+      subst (IsTailAt walk.tables.now walk.side (map_of walk.cube.now) head) (sym there)
+      (law.tail walk.tables.now walk.side walk.cube.now head map back.0 cube stands.is_here stands.starts back.1)
 
-  pub tail_here : (d : Cube) (x y : List GoalCoordinates) → IsHere step side (map_of c) head (map_of here) → IsTrue (may_start step (map_of here))
-      → TakesBack here d → HasPosition step (map_of d) y → x ≡ y → IsTailAt step side (map_of c) head x
-  tail_here d x y is starts back at same =
-      subst (IsTailAt step side (map_of c) head) (at.here ∙ sym same) (law.tail step side c head (map_of here) d (here, λ q l. refl) is starts back)
+  -- any turn is, once it was taken back
+  pub stands_before : StepsSeePlaces → (here before : Cube) (t : Turn) → StandsAt walk head (map_of here) → SameMap (map_of before) (λ q. turned (inverse_turn t) (map_of here q))
+      → StandsAt walk head (λ q. turned t (map_of before q))
+  stands_before see here before t stands back =
+      let again : Place → Place = λ q. turned t (map_of before q) in
+      let same : SameMap again (map_of here) = λ q l. ap (turned t) (back q l) ∙ law.undone t (map_of here q) in
+      record {
+        starts = subst IsTrue (sym ((see again (map_of here) same).start walk.tables.now)) stands.starts;
+        is_here = law.same walk.tables.now walk.side walk.cube.now head (map_of here) again stands.is_here same;
+      }

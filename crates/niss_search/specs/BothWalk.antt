@@ -1,11 +1,11 @@
 -- The search over both sides from within: the shorter side of a pair is its head, the other one its tail. (For the search's own
 -- functions.)
 use Rattle.std.specs.Prelude.{◌≡◌, ◌⊎◌, ℕ, ◌+◌, ◌^◌, ◌-◌, min, nat_le, if◌then◌else◌, Bool, true, false, not, ◌&&◌, ◌||◌}
-use Rattle.std.specs.Prelude.{IsTrue, List, [], ◌∷◌, ◌++◌, length, take, map, filter, flat_map, sum_by}
+use Rattle.std.specs.Prelude.{◌≤◌, ◌*◌, IfOk, Result, IsTrue, List, [], ◌∷◌, ◌++◌, length, take, map, filter, flat_map, sum_by}
 use Rattle.std.specs.List.{list_any, range_with_len}
 use Rattle.niss_moves.specs.Places.{Place, SameMap, IsPlace}
 use Rattle.niss_cube.specs.Map.{map_of}
-use Rattle.niss_moves.specs.Effects.{turned}
+use Rattle.niss_moves.specs.Effects.{turned, inverse_turn}
 use Rattle.niss_cube.specs.AfterTurn.{IsCube}
 use Rattle.niss_cube.specs.Inverses.{IsTakenBack}
 use Rattle.niss_cube.specs.declared.cube.Cube.{Cube}
@@ -14,14 +14,19 @@ use Rattle.niss_search.specs.Names.{Turn, Step, GoalCoordinates}
 use Rattle.niss_search.specs.Delivery.{Path}
 use Rattle.niss_search.specs.Solutions.{Space, Homomorphism, after_all, reaching, distance, looks}
 use Rattle.niss_search.specs.Cubes.{cubes, HasPosition}
+use Rattle.niss_search.specs.Budgets.{is_cut_in, HasSpent}
 use Rattle.niss_search.specs.Positions.{positions, position_of, distance_at}
 use Rattle.niss_search.specs.Deepening.{below}
-use Rattle.niss_search.specs.BothSides.{Pair, pair, inverse_side, ends_idle, begins_reached, leaves_out, has_ends}
+use Rattle.niss_search.specs.BothSides.{Pair, pair, inverse_side, ends_idle, begins_reached, leaves_out, has_ends, HandsOut}
+use Rattle.niss_search.specs.BothSides.{pairs_with, looks_with, pair_solutions, pair_looks}
+use Rattle.niss_search.specs.declared.budget.Stopped.{Stopped}
 use Rattle.niss_search.specs.declared.searching.both.Ends.{Ends}
+use Rattle.niss_search.specs.declared.searching.both.Sides.{Sides}
 use Rattle.niss_search.specs.declared.searching.both.splitting.Side.{Side}
 use Rattle.niss_search.specs.declared.searching.both.splitting.Side.TheVariants.{Normal, Inverse}
 use Rattle.niss_search.specs.declared.searching.both.splitting.Split.{Split}
 use Rattle.niss_search.specs.declared.searching.both.joined.Joined.{Joined}
+use Rattle.niss_search.specs.declared.searching.both.walk.Walk.{Walk}
 
 -- the cubes of a step after its turns on a side, and on the other
 abbrev pub on_side : Side → (step : Step) → Space (turns_of step) (Place → Place)
@@ -52,6 +57,25 @@ pub record PairPart : Type 0 where
 abbrev pub parts : {X : Type 0} → (X → PairPart) → List X → PairPart
 parts part xs = record { pairs = flat_map (λ x. (part x).pairs) xs; looks = sum_by (λ x. (part x).looks) xs }
 
+-- a part once its first look was made
+abbrev pub once_looked : PairPart → PairPart
+once_looked part = record { pairs = part.pairs; looks = part.looks - 1 }
+
+-- What the functions of a search are asked for: a meter within its bound, which stays far below the greatest number.
+pub record MaySearch (bound meter : ℕ) : Type 0 where
+  pub within : meter ≤ bound
+  pub countable : bound ≤ 3 * 2 ^ 126
+
+-- What they give back by the part that they make, after `made` looks: they handed out its pairs, which are no more than all
+-- looks, and stopped within the bound, which they have spent if they were cut.
+module _ {K F T : Type 0} (took refused : K → Pair → K → Type 0) (bound : ℕ) (step : Step) (count : T → ℕ) where
+  pub record HasSearched
+      (part : PairPart) (made meter meter_now : ℕ) (sink sink_now : K) (said : Result T (Stopped F)) : Type 0 where
+    pub handed : HandsOut took refused part.pairs part.looks meter meter_now sink sink_now is_cut_in bound count said
+    pub counted : IfOk said (λ value. meter + count value ≤ meter_now + made)
+    pub within : meter_now ≤ bound
+    pub spent : HasSpent is_cut_in bound step meter_now said
+
 -- a pair that has such ends, and whose first turns don't reach the step
 abbrev pub is_kept : Ends → Step → (Place → Place) → Pair → Bool
 is_kept ends step e p = has_ends ends p && not (begins_reached step e p)
@@ -80,6 +104,15 @@ module _ (ends : Ends) (step : Step) (e : Place → Place) (side : Side) (tail :
 abbrev pub part_of_lengths : Ends → (step : Step) → (e : Place → Place) → (i j : ℕ) → PairPart
 part_of_lengths ends step e i j = let split = split_of i j in after_heads ends step e split.side split.tail [] split.head
 
+-- what is done for pairs of n turns on these sides, and for those of all lengths to the last
+abbrev pub part_of_length : Ends → (step : Step) → (e : Place → Place) → Sides → ℕ → PairPart
+part_of_length ends step e sides n =
+    record { pairs = pairs_with step e ends sides n; looks = looks_with step e ends sides n }
+
+abbrev pub part_of_search : (step : Step) → (e : Place → Place) → Sides → (n slack : ℕ) → PairPart
+part_of_search step e sides n slack =
+    record { pairs = pair_solutions step e sides n slack; looks = pair_looks step e sides n slack }
+
 -- A cube whose inverse has the position.
 pub record HasInverseAt (step : Step) (e : Place → Place) (x : List GoalCoordinates) : Type 0 where
   pub inverse : Place → Place
@@ -101,6 +134,20 @@ abbrev pub IsTailAt : Step → Side → (e : Place → Place) → (head : List T
 IsTailAt step Normal e head x = HasInverseAt step (after_all (cubes step) e head) x
 IsTailAt step Inverse e head x = HasPosition step (after_all (inverse_side step) e head) x
 
+-- A walk, after a head.
+module _ {A : Type 0} (walk : Walk A) (head : List Turn) where
+  -- what it does there, and for all heads that begin with it and have so many turns more
+  abbrev pub done_after : PairPart
+  done_after = after_head walk.ends walk.tables.now (map_of walk.cube.now) walk.side walk.tail head
+
+  abbrev pub done_below : ℕ → PairPart
+  done_below left = after_heads walk.ends walk.tables.now (map_of walk.cube.now) walk.side walk.tail head left
+
+  -- The cube of the head's side, on which the step may start.
+  pub record StandsAt (here : Place → Place) : Type 0 where
+    pub starts : IsTrue (may_start walk.tables.now here)
+    pub is_here : IsHere walk.tables.now walk.side (map_of walk.cube.now) head here
+
 -- How the cube of the head's side and the other side's position follow heads.
 pub record TailsFollowHeads : Type 0 where
   -- a map that is the same on the places is the same
@@ -118,6 +165,7 @@ pub record TailsFollowHeads : Type 0 where
       IsTailAt step side (map_of c) head (position_of step (map_of d))
   pub taken_back : (here : Place → Place) → IsCube here → (d : Cube) × IsTakenBack here d
   pub turned_cube : (c : Cube) (t : Turn) → IsCube (λ q. turned t (map_of c q))
+  pub undone : (t : Turn) (q : Place) → turned t (turned (inverse_turn t) q) ≡ q
   -- what the search of the other side finds and how often it looks, by the position alone
   pub found :
       (step : Step) (side : Side) (c : Cube) (head : List Turn) (x : List GoalCoordinates) (k : ℕ) →

@@ -218,6 +218,11 @@ module _ {K E : Type 0} (took refused : K → Path → K → Type 0) (is_cut : E
     pub spent : HasSpent is_cut bound step meter_now said
     pub makes : Makes took refused is_cut bound part meter meter_now old new said
 
+-- what is returned of a descent that counted so many, by how it ended
+abbrev pub found_by : {E : Type 0} → ℕ → Result (Unit {0}) E → Result ℕ E
+found_by count (Ok u) = Ok count
+found_by count (Err stop) = Err stop
+
 -- What deepenings do that make this part, by what they return: how many paths, or a fault.
 module _
     {K : Type 0} (took refused : K → Path → K → Type 0) (limit : ℕ) (part : Part) (meter meter_now : ℕ)

@@ -1,18 +1,18 @@
-//! The bytes of a table that are at a level, found 32 at a time.
+//! The bytes of a table that are at a level, found eight at a time.
 ghost use Rattle.std.specs.Prelude.{◌≡◌, ◌≢◌, ℕ, ◌<◌, ◌≤◌, ◌==◌, length, not, slice_index, IfSome, IfNone};
 ghost use Rattle.std.specs.List.{prefix_len};
 
 use std::simd::prelude::*;
 
-/// The first index of the level in a block, or 32 if there is none.
-fn first_in_block(block: &[u8; 32], level: u8) -> usize
+/// The first index of the level in a block, or 8 if there is none.
+fn first_in_block(block: &[u8; 8], level: u8) -> usize
     ensures { result ≡ prefix_len (λ byte. not (byte == level)) block.now }
 {
-    let mask = u8x32::from_array(*block)
-        .simd_eq(u8x32::splat(level))
+    let mask = u8x8::from_array(*block)
+        .simd_eq(u8x8::splat(level))
         .to_bitmask();
     if mask == 0 {
-        32
+        8
     } else {
         mask.trailing_zeros() as usize
     }
@@ -28,14 +28,14 @@ pub fn next_at(table: &[u8], from: usize, level: u8) -> Option<usize>
     ensures none { IfNone result
         ((k : ℕ) → from ≤ k → k < length table.now → slice_index table.now k ≢ level) }
 {
-    let (blocks, rest) = table[from..].as_chunks::<32>();
+    let (blocks, rest) = table[from..].as_chunks::<8>();
     let mut at = from;
     for block in blocks {
         let place = first_in_block(block, level);
-        if place < 32 {
+        if place < 8 {
             return Some(at + place);
         }
-        at += 32;
+        at += 8;
     }
     for byte in rest {
         if *byte == level {

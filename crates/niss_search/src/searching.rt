@@ -27,7 +27,6 @@ pub use both::{
 use depth_first::{Descent, Guide};
 use niss_cube::laws::step_turns_in_order;
 use std::alloc::Allocator;
-use std::mem;
 
 /// What takes the solutions of a search, one path at a time. It states what a path does to it by two relations, each
 /// between its value before, the limit and the turns of the path, and its value after.
@@ -230,8 +229,6 @@ impl<A: Allocator> Root<'_, A> {
         ensures spent { HasSpent B.is_cut (B.bound budget.now) self.now.tables.now meter.new result }
         ensures counted { IfOk result (λ count. meter.old + count ≤ meter.new) }
     {
-        // by value, as the descent takes it: what stands in its place meanwhile never ticks
-        let held = mem::replace(meter, Meter::new());
         let mut descent = Descent {
             path,
             sink,
@@ -241,11 +238,8 @@ impl<A: Allocator> Root<'_, A> {
             tables: self.tables,
             budget,
         };
-        let (after, ended) = descent.begin(guide, self.position, length, held);
-        let solutions = descent.count;
-        *meter = after;
-        ended?;
-        Ok(solutions)
+        let ended = descent.begin(guide, self.position, length, meter.take());
+        descent.finish(ended, meter)
     }
 }
 

@@ -1,9 +1,8 @@
 //! Steps with alternatives: an edge orientation on any axis, and a domino reduction on either of two.
 use crate::runs::Given::Words;
 use crate::runs::Run::{self, Fault, Good};
-use crate::runs::{check_looks, check_runs};
 
-const EDGES: &[(Run, u128)] = &[
+pub const EDGES: &[(Run, u128)] = &[
     // two alternatives hold, and the empty sequence is one solution
     (
         Good(
@@ -57,12 +56,35 @@ const EDGES: &[(Run, u128)] = &[
     ),
 ];
 
-#[test]
-fn edges_on_any_axis(rt: HostRuntime) {
-    check_looks(&rt, rt.alloc(), EDGES);
-}
+/// A turn that reaches a domino reduction may be followed by one that keeps it, and by those of the other faces.
+const EITHER_DOMINO: &[u8] = b"U (1)
+U' (1)
+U D2 (2)
+U R (2)
+U R2 (2)
+U R' (2)
+U L (2)
+U L2 (2)
+U L' (2)
+U F2 (2)
+U B2 (2)
+U' D2 (2)
+U' R (2)
+U' R2 (2)
+U' R' (2)
+U' L (2)
+U' L2 (2)
+U' L' (2)
+U' F2 (2)
+U' B2 (2)
 
-const DOMINOES: &[Run] = &[
+";
+
+pub const DOMINOES: &[Run] = &[
+    Good(
+        Words(&["near", "dr-eofb", "2", "1", "R", "U"]),
+        EITHER_DOMINO,
+    ),
     Good(Words(&["solve", "dr-eofb", "5", "R"]), b"(0)\n\n"),
     // one turn for the second axis, but two for the first
     Good(
@@ -95,12 +117,7 @@ const DOMINOES: &[Run] = &[
     ),
 ];
 
-#[test]
-fn dominoes_on_either_axis(rt: HostRuntime) {
-    check_runs(&rt, rt.alloc(), DOMINOES);
-}
-
-const NOT_STARTED: &[(Run, u128)] = &[
+pub const NOT_STARTED: &[(Run, u128)] = &[
     (
         Fault(
             Words(&["solve", "dr-eoud", "3", "U"]),
@@ -134,8 +151,3 @@ const NOT_STARTED: &[(Run, u128)] = &[
         0,
     ),
 ];
-
-#[test]
-fn edges_are_to_be_oriented_for_a_domino(rt: HostRuntime) {
-    check_looks(&rt, rt.alloc(), NOT_STARTED);
-}

@@ -1,23 +1,33 @@
 //! Runs whose reads, writes or flushes fail, each in turn.
+use crate::blocks::BLOCK;
 use crate::devices::{Devices, FAULTLESS};
 use crate::runs::Given::{self, Input, Words};
-use crate::runs::Run::{Failure, Fault, Good};
-use crate::runs::{
-    CANNOT_WRITE, STEPS, check_count, check_each_read, check_each_write, check_nothing_taken,
-};
+use crate::runs::Run::{self, Failure, Fault, Good};
+use crate::runs::{CANNOT_WRITE, STEPS, check_count, check_each_read, check_each_write};
 use std::alloc::Global;
 use std::process::Abort;
 
+/// Words, and what they write after no line, after one and after two.
+type Reads = (&'static [&'static str], [&'static [u8]; 3]);
+
+const READS: &[Reads] = &[
+    (&["unniss"], [b"", b"R\n", b"R\nU\n"]),
+    (&["invert"], [b"", b"R'\n", b"R'\nU'\n"]),
+    (
+        &["solve", "eofb", "7"],
+        [b"", b"(0)\n\n", b"(0)\n\n(0)\n\n"],
+    ),
+    (
+        &["near", "eofb", "7", "0"],
+        [b"", b"(0)\n\n", b"(0)\n\n(0)\n\n"],
+    ),
+];
+
 #[test]
 fn each_read_fails(rt: HostRuntime) {
-    let joined: &[&[u8]; 3] = &[b"", b"R\n", b"R\nU\n"];
-    check_each_read(&rt, rt.alloc(), &["unniss"], joined, FAULTLESS);
-    let inverted: &[&[u8]; 3] = &[b"", b"R'\n", b"R'\nU'\n"];
-    check_each_read(&rt, rt.alloc(), &["invert"], inverted, FAULTLESS);
-    let solved: &[&[u8]; 3] = &[b"", b"(0)\n\n", b"(0)\n\n(0)\n\n"];
-    check_each_read(&rt, rt.alloc(), &["solve", "eofb", "7"], solved, FAULTLESS);
-    let near = ["near", "eofb", "7", "0"];
-    check_each_read(&rt, rt.alloc(), &near, solved, FAULTLESS);
+    for (words, outputs) in READS {
+        check_each_read(&rt, rt.alloc(), words, outputs, FAULTLESS);
+    }
 }
 
 /// A run, how many bytes a read of it gives at most, and what goes out in each write.
@@ -114,6 +124,27 @@ const WRITES: &[Writes] = &[
     },
 ];
 
+/// What the first so many writes bring.
+fn written(rt: &impl Abort, alloc: Global, pieces: &[&[u8]], writes: usize) -> Vec<u8> {
+    let mut written = Vec::new(alloc);
+    for piece in pieces.iter().take(writes) {
+        written
+            .extend_from_slice(piece)
+            .expect(rt, "memory for pieces");
+    }
+    written
+}
+
+/// Makes a run whose first write takes no byte: no other follows it.
+fn check_nothing_taken(rt: &impl Abort, alloc: Global, given: Given<'_>, devices: Devices<'_>) {
+    let full = Devices {
+        most_written: 0,
+        ..devices
+    };
+    let calls = Failure(given, b"", CANNOT_WRITE).check(rt, alloc, full);
+    check_count(rt, "writes", calls.writes, 1);
+}
+
 impl Writes<'_> {
     fn devices(self) -> Devices<'static> {
         Devices {
@@ -122,25 +153,14 @@ impl Writes<'_> {
         }
     }
 
-    /// What the first so many writes bring.
-    fn written(self, rt: &impl Abort, alloc: Global, writes: usize) -> Vec<u8> {
-        let mut written = Vec::new(alloc);
-        for piece in self.pieces.iter().take(writes) {
-            written
-                .extend_from_slice(piece)
-                .expect(rt, "memory for pieces");
-        }
-        written
-    }
-
     /// Makes the run in which the write after so many others fails: after all of them there is none.
     fn check_write_after(self, rt: &impl Abort, alloc: Global, before: usize) {
-        let written = self.written(rt, alloc, before);
+        let brought = written(rt, alloc, self.pieces, before);
         let all = self.pieces.len();
         let run = if before < all {
-            Failure(self.given, written.as_slice(), CANNOT_WRITE)
+            Failure(self.given, brought.as_slice(), CANNOT_WRITE)
         } else {
-            Good(self.given, written.as_slice())
+            Good(self.given, brought.as_slice())
         };
         let number = before.saturating_add(1);
         let failing = Devices {
@@ -153,12 +173,16 @@ impl Writes<'_> {
 
     /// Makes the run with each write of a byte failing in turn, with no byte taken, and with the last flush failing.
     fn check_output(self, rt: &impl Abort, alloc: Global) {
-        let output = self.written(rt, alloc, self.pieces.len());
+        let output = written(rt, alloc, self.pieces, self.pieces.len());
         let run = Good(self.given, output.as_slice());
         check_each_write(rt, alloc, run, self.devices());
         check_nothing_taken(rt, alloc, self.given, self.devices());
-        let unflushed = Failure(self.given, output.as_slice(), CANNOT_WRITE);
-        unflushed.check(rt, alloc, self.devices().unflushed());
+        let run = Failure(self.given, output.as_slice(), CANNOT_WRITE);
+        let unflushed = Devices {
+            flush_fails: true,
+            ..self.devices()
+        };
+        run.check(rt, alloc, unflushed);
     }
 }
 
@@ -168,23 +192,35 @@ fn each_write_fails(rt: HostRuntime) {
         for before in 0..=row.pieces.len() {
             row.check_write_after(&rt, rt.alloc(), before);
         }
-    }
-}
-
-#[test]
-fn each_byte_and_the_last_flush_fail(rt: HostRuntime) {
-    for row in WRITES {
         row.check_output(&rt, rt.alloc());
     }
 }
 
-const NOT_A_MOVE: &[u8] = b"nissy: line 1, column 3: not a move\n";
+/// Runs of which each write of a byte fails in turn: a fault comes after the answers that wait, and a refused write before it.
+const BYTEWISE: &[Run] = &[
+    Good(
+        Words(&["scramble", "42", "54", "3", "2"]),
+        b"L' D' F'\nL F' L'\n",
+    ),
+    Fault(
+        Input(&["invert"], b"R\nU\nq\n"),
+        b"R'\nU'\n",
+        b"nissy: line 3, column 1: not a move\n",
+    ),
+];
 
 #[test]
-fn flush_fails_after_a_fault(rt: HostRuntime) {
-    let run = Fault(Words(&["invert", "R '"]), b"", NOT_A_MOVE);
-    run.check(&rt, rt.alloc(), FAULTLESS.unflushed());
+fn each_byte_fails(rt: HostRuntime) {
+    for run in BYTEWISE {
+        let devices = Devices {
+            most_read: BLOCK,
+            ..FAULTLESS
+        };
+        check_each_write(&rt, rt.alloc(), *run, devices);
+    }
 }
+
+const NOT_A_MOVE: &[u8] = b"nissy: line 1, column 3: not a move\n";
 
 /// The error writer takes a byte at a time, and each of its writes fails in turn.
 #[test]
@@ -197,12 +233,4 @@ fn each_write_of_a_fault_fails(rt: HostRuntime) {
         };
         Fault(Words(&["invert", "R '"]), b"", &NOT_A_MOVE[..taken]).check(&rt, rt.alloc(), devices);
     }
-}
-
-/// A fault goes out whole in one write, so that what others write beside it doesn't cut it.
-#[test]
-fn a_fault_is_one_write(rt: HostRuntime) {
-    let run = Fault(Words(&["invert", "R '"]), b"", NOT_A_MOVE);
-    let calls = run.check(&rt, rt.alloc(), FAULTLESS);
-    check_count(&rt, "writes of the fault", calls.error_writes, 1);
 }

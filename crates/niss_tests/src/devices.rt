@@ -6,6 +6,7 @@ use crate::refusing::Refusing;
 use linked_list_allocator::LocalHeap;
 use niss_shell::{DeviceFault, Source, Target};
 use std::alloc::Global;
+use std::cell::Cell;
 use std::io;
 
 /// How many bytes the devices of a run move at most in a call, and which of their calls fails, by its number from 1.
@@ -22,6 +23,8 @@ pub struct Devices<'a> {
     pub stream_error: Option<io::ErrorKind>,
     /// What the run takes its memory of, if that isn't ample.
     pub memory: Option<&'a Refusing<&'a LocalHeap>>,
+    /// What calls of both targets are numbered by, if they are.
+    pub clock: Option<&'a Cell<usize>>,
 }
 
 /// Reads of a byte, all is taken, and no call fails.
@@ -35,6 +38,7 @@ pub const FAULTLESS: Devices<'static> = Devices {
     failed_report: None,
     stream_error: None,
     memory: None,
+    clock: None,
 };
 
 /// Few bytes in each call: so lines, moves and answers are cut anywhere.
@@ -45,17 +49,9 @@ pub const FEW: Devices<'static> = Devices {
     ..FAULTLESS
 };
 
-impl Devices<'_> {
-    /// The same, but the flush after the last write fails.
-    pub fn unflushed(self) -> Self {
-        Devices {
-            flush_fails: true,
-            ..self
-        }
-    }
-
+impl<'a> Devices<'a> {
     /// The source of this input.
-    pub fn source<'b>(self, input: &'b [u8]) -> Bytes<'b>
+    pub fn source<'b>(&self, input: &'b [u8]) -> Bytes<'b>
         ensures works { result.failed ≡ false }
         ensures goes_on { result.ended ≡ false }
     {
@@ -73,7 +69,7 @@ impl Devices<'_> {
     }
 
     /// What the output goes to.
-    pub fn target(self, alloc: Global) -> Held {
+    pub fn target(&self, alloc: Global) -> Held<'a> {
         Held {
             bytes: Vec::new(alloc),
             most: self.most_written,
@@ -85,17 +81,9 @@ impl Devices<'_> {
             flushes: 0,
             failed: false,
             flush_tried: false,
+            clock: self.clock,
+            last: 0,
         }
-    }
-
-    /// What the text of a fault goes to.
-    pub fn error_target(self, alloc: Global) -> Held {
-        let reporting = Devices {
-            most_written: self.most_reported,
-            failed_write: self.failed_report,
-            ..self
-        };
-        reporting.target(alloc)
     }
 }
 
@@ -172,7 +160,7 @@ impl io::Read for Bytes<'_> {
 /// A target in memory, which notes the least that a write brought. After a write that failed it takes what later ones
 /// bring.
 #[derive(Drop)]
-pub struct Held {
+pub struct Held<'a> {
     pub bytes: Vec<u8>,
     most: usize,
     fails_at: Option<usize>,
@@ -184,15 +172,27 @@ pub struct Held {
     failed: bool,
     /// Whether a flush came after the last write.
     pub flush_tried: bool,
+    clock: Option<&'a Cell<usize>>,
+    /// The number of its last call.
+    pub last: usize,
 }
 
-impl Target for Held {
+/// The number of a call by a clock, or 0 if there is none.
+fn ticked(clock: Option<&Cell<usize>>) -> usize {
+    let Some(clock) = clock else { return 0 };
+    let number = clock.get().saturating_add(1);
+    clock.set(number);
+    number
+}
+
+impl Target for Held<'_> {
     ghost call = { λ s c t. CallShows c (target_state (Some s.bytes.items) s.failed)
         (target_state (Some t.bytes.items) t.failed) };
 
     ghost state = { λ t. target_state (Some t.bytes.items) t.failed };
 
     fn write(&mut self, piece: &[u8]) -> Result<usize, DeviceFault> {
+        self.last = ticked(self.clock);
         self.writes = self.writes.saturating_add(1);
         self.least_brought = self.least_brought.min(piece.len());
         self.flush_tried = false;
@@ -214,6 +214,7 @@ impl Target for Held {
     }
 
     fn flush(&mut self) -> Result<(), DeviceFault> {
+        self.last = ticked(self.clock);
         self.flushes = self.flushes.saturating_add(1);
         self.flush_tried = true;
         if self.flush_fails {
@@ -230,7 +231,7 @@ impl Target for Held {
     ghost shown = { λ old new c did. did };
 }
 
-impl io::Write for Held {
+impl io::Write for Held<'_> {
     fn write(&mut self, buf: &[u8]) -> io::Result<usize> {
         match Target::write(self, buf) {
             Ok(count) => Ok(count),

@@ -6,9 +6,9 @@
 #[cfg(test)]
 mod alternatives;
 #[cfg(test)]
-mod ample_memory;
-#[cfg(test)]
 mod blocks;
+#[cfg(test)]
+mod counts;
 #[cfg(test)]
 mod device_faults;
 #[cfg(test)]
@@ -18,7 +18,7 @@ mod limits;
 #[cfg(test)]
 mod lines;
 #[cfg(test)]
-mod memory;
+mod made;
 #[cfg(test)]
 mod near;
 #[cfg(test)]
@@ -28,10 +28,10 @@ mod refusing;
 #[cfg(test)]
 mod runs;
 #[cfg(test)]
-mod scrambles;
-#[cfg(test)]
 mod solutions;
 #[cfg(test)]
 mod std_streams;
+#[cfg(test)]
+mod tables;
 #[cfg(test)]
 mod usage;

@@ -6,61 +6,50 @@ use crate::runs::Given::{Input, Words};
 use crate::runs::Run::{Failure, Good};
 use crate::runs::{Outcome, TOO_LONG, repeated, words_of};
 use niss_shell::{FromReader, Meter, run};
-use std::alloc::{AllocError, Global};
+use std::alloc::Global;
 use std::io;
 use std::process::Abort;
-use std::test::Fail;
 
 const LIMIT: usize = 16_777_216;
 
 // the line feed that ends the words counts too
 #[test]
-fn words_at_the_limit_are_taken(rt: HostRuntime) -> Result<(), Fail> {
-    let spaces = repeated(rt.alloc(), " ", LIMIT - 1, "")?;
+fn words_at_the_limit_are_taken(rt: HostRuntime) {
+    let spaces = repeated(rt.alloc(), " ", LIMIT - 1, "").expect(&rt, "memory for words");
     Good(Words(&["invert", &spaces]), b"\n").check(&rt, rt.alloc(), FAULTLESS);
-    Ok(())
 }
 
 // no growth is asked for if the words are too many
 #[test]
-fn words_above_the_limit_are_refused(rt: HostRuntime) -> Result<(), Fail> {
-    let spaces = repeated(rt.alloc(), " ", LIMIT, "")?;
+fn words_above_the_limit_are_refused(rt: HostRuntime) {
+    let spaces = repeated(rt.alloc(), " ", LIMIT, "").expect(&rt, "memory for words");
     let run = Failure(Words(&["invert", &spaces]), b"", TOO_LONG);
     run.check(&rt, rt.alloc(), FAULTLESS);
-    check_first_refused(&rt, rt.alloc(), run)?;
-    Ok(())
+    check_first_refused(&rt, rt.alloc(), run);
 }
 
-/// Reads of whole blocks.
-const BLOCKS: Devices<'static> = Devices {
-    most_read: BLOCK,
-    ..FAULTLESS
-};
-
 /// Makes a run over so many blanks, byte by byte and by blocks.
-fn check_blanks(rt: &impl Abort, alloc: Global, count: usize) -> Result<(), AllocError> {
-    let spaces = repeated(alloc, " ", count, "")?;
+fn check_blanks(rt: &impl Abort, alloc: Global, count: usize) {
+    let spaces = repeated(alloc, " ", count, "").expect(rt, "memory for blanks");
     let given = Input(&["invert"], spaces.as_bytes());
     let run = if count > LIMIT {
         Failure(given, b"", TOO_LONG)
     } else {
         Good(given, b"\n")
     };
-    run.check(rt, alloc, FAULTLESS);
-    run.check(rt, alloc, BLOCKS);
-    Ok(())
+    for most_read in &[1, BLOCK] {
+        let devices = Devices {
+            most_read: *most_read,
+            ..FAULTLESS
+        };
+        run.check(rt, alloc, devices);
+    }
 }
 
 #[test]
-fn blanks_at_the_limit_are_read(rt: HostRuntime) -> Result<(), Fail> {
-    check_blanks(&rt, rt.alloc(), LIMIT)?;
-    Ok(())
-}
-
-#[test]
-fn blanks_above_the_limit_are_refused(rt: HostRuntime) -> Result<(), Fail> {
-    check_blanks(&rt, rt.alloc(), LIMIT + 1)?;
-    Ok(())
+fn blanks_are_read_up_to_the_limit(rt: HostRuntime) {
+    check_blanks(&rt, rt.alloc(), LIMIT);
+    check_blanks(&rt, rt.alloc(), LIMIT + 1);
 }
 
 /// The line has more than 256 moves, but its end was never read.
@@ -68,7 +57,7 @@ fn blanks_above_the_limit_are_refused(rt: HostRuntime) -> Result<(), Fail> {
 fn moves_without_an_end_are_refused(rt: HostRuntime) {
     let words = words_of(rt.alloc(), &["invert"]).expect(&rt, "memory for words");
     let mut out = FAULTLESS.target(rt.alloc());
-    let mut err = FAULTLESS.error_target(rt.alloc());
+    let mut err = FAULTLESS.target(rt.alloc());
     let status = run(
         rt.alloc(),
         &words,

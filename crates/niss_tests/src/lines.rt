@@ -1,12 +1,9 @@
-//! Lines that are inverted, joined, cleaned or shown: what a run writes, reports and returns.
-use crate::devices::FEW;
+//! Lines that are inverted, joined, cleaned or shown, and what needs no lines: what a run writes, reports and returns.
 use crate::runs::Given::{Input, Words};
 use crate::runs::Run::{self, Fault, Good};
-use crate::runs::{check_runs, check_words, repeated};
-use std::alloc::Global;
-use std::process::Abort;
+use crate::runs::STEPS;
 
-const INVERTED: &[Run] = &[
+pub const INVERTED: &[Run] = &[
     Good(Words(&["invert", "R U' F2"]), b"F2 U R'\n"),
     Good(Words(&["invert", ""]), b"\n"),
     Good(Words(&["invert", "R2'", "U"]), b"U' R2\n"),
@@ -38,12 +35,7 @@ const INVERTED: &[Run] = &[
     ),
 ];
 
-#[test]
-fn lines_are_inverted(rt: HostRuntime) {
-    check_runs(&rt, rt.alloc(), INVERTED);
-}
-
-const JOINED: &[Run] = &[
+pub const JOINED: &[Run] = &[
     Good(Words(&["unniss", "R (U F') D"]), b"R D F U'\n"),
     Good(Words(&["unniss", "r2' Mx'"]), b"Rw2 M x'\n"),
     Good(
@@ -87,12 +79,7 @@ const JOINED: &[Run] = &[
     ),
 ];
 
-#[test]
-fn brackets_are_joined(rt: HostRuntime) {
-    check_runs(&rt, rt.alloc(), JOINED);
-}
-
-const CLEANED: &[Run] = &[
+pub const CLEANED: &[Run] = &[
     Good(Words(&["cleanup", "Rw U"]), b"L F x\n"),
     Good(Words(&["cleanup", "r U"]), b"L F x\n"),
     Good(Words(&["cleanup", "M"]), b"R L' x'\n"),
@@ -115,18 +102,13 @@ const CLEANED: &[Run] = &[
     Good(Input(&["cleanup"], b"Rw U\nM\n"), b"L F x\nR L' x'\n"),
 ];
 
-#[test]
-fn lines_are_cleaned(rt: HostRuntime) {
-    check_runs(&rt, rt.alloc(), CLEANED);
-}
-
 /// Edges in each other place of each face.
 const CHECKERED: &[u8] = b"UDUDUDUDURLRLRLRLRFBFBFBFBFDUDUDUDUDLRLRLRLRLBFBFBFBFB\n";
 
 /// The cube on which each edge is flipped in its place, by a sequence of 20 turns.
 const SUPERFLIP: &str = "U R2 F B R B2 R U2 L B2 R U' D' R2 F R' L B2 U2 F2";
 
-const SHOWN: &[Run] = &[
+pub const SHOWN: &[Run] = &[
     Good(
         Words(&["print", ""]),
         b"UUUUUUUUURRRRRRRRRFFFFFFFFFDDDDDDDDDLLLLLLLLLBBBBBBBBB\n",
@@ -173,28 +155,30 @@ const SHOWN: &[Run] = &[
     ),
 ];
 
-#[test]
-fn facelets_are_shown(rt: HostRuntime) {
-    check_runs(&rt, rt.alloc(), SHOWN);
-}
+const GREATEST: &str = "18446744073709551615";
 
-#[test]
-fn most_moves_are_taken(rt: HostRuntime) {
-    let most = repeated(rt.alloc(), "U", 256, "").expect(&rt, "memory for moves");
-    let inverses = repeated(rt.alloc(), "U' ", 255, "U'\n").expect(&rt, "memory for moves");
-    check_words(&rt, rt.alloc(), &["invert", &most], inverses.as_bytes());
-    check_words(&rt, rt.alloc(), &["cleanup", &most], b"\n");
-}
-
-/// Checks that a command refuses this line, which has a move too many.
-fn check_too_many(rt: &impl Abort, alloc: Global, command: &str, line: &str) {
-    let fault = b"nissy: line 1, column 257: more than 256 moves\n";
-    Fault(Words(&[command, line]), b"", fault).check(rt, alloc, FEW);
-}
-
-#[test]
-fn a_move_too_many_is_refused(rt: HostRuntime) {
-    let more = repeated(rt.alloc(), "U", 257, "").expect(&rt, "memory for moves");
-    check_too_many(&rt, rt.alloc(), "invert", &more);
-    check_too_many(&rt, rt.alloc(), "cleanup", &more);
-}
+/// Scrambles of a seed, and the list of steps.
+pub const SCRAMBLES: &[Run] = &[
+    Good(Words(&["steps"]), STEPS),
+    Good(
+        Words(&["scramble", "42", "54", "6", "1"]),
+        b"L' D' F' R2 F' L'\n",
+    ),
+    Good(
+        Words(&["scramble", "42", "54", "3", "2"]),
+        b"L' D' F'\nL F' L'\n",
+    ),
+    Good(Words(&["scramble", "42", "54", "0", "1"]), b"\n"),
+    Good(Words(&["scramble", "42", "54", "0", "3"]), b"\n\n\n"),
+    Good(Words(&["scramble", "42", "54", "6", "0"]), b""),
+    Good(
+        Words(&["scramble", "042", "0000000000000000000054", "03", "0001"]),
+        b"L' D' F'\n",
+    ),
+    Good(Words(&["scramble", GREATEST, GREATEST, "256", "0"]), b""),
+    // by a program of our own in another language, after PCG's C code
+    Good(
+        Words(&["scramble", GREATEST, GREATEST, "12", "2"]),
+        b"U' L2 F2 D' L D' B2 R D2 R2 F' U2\nL F' U2 L2 D' B2 L2 U D2 B D2 B\n",
+    ),
+];

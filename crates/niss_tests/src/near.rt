@@ -1,7 +1,7 @@
 //! Solutions that are up to some turns longer than the least.
 use crate::runs::Given::{Input, Words};
 use crate::runs::Run::{self, Fault, Good};
-use crate::runs::{SHORTEST, check_looks, check_words};
+use crate::runs::SHORTEST;
 
 /// The edge orientations of at most two turns of the cube after F.
 const AFTER_F: &[u8] = b"F (1)
@@ -35,32 +35,8 @@ F' B2 (2)
 
 ";
 
-/// A turn that reaches a domino reduction may be followed by one that keeps it, and by those of the other faces.
-const EITHER_DOMINO: &[u8] = b"U (1)
-U' (1)
-U D2 (2)
-U R (2)
-U R2 (2)
-U R' (2)
-U L (2)
-U L2 (2)
-U L' (2)
-U F2 (2)
-U B2 (2)
-U' D2 (2)
-U' R (2)
-U' R2 (2)
-U' R' (2)
-U' L (2)
-U' L2 (2)
-U' L' (2)
-U' F2 (2)
-U' B2 (2)
-
-";
-
 /// Runs, and how many positions they look at: those of all deepenings to the last length.
-const NEAR: &[(Run, u128)] = &[
+pub const NEAR: &[(Run, u128)] = &[
     // the slack cuts the limit
     (Good(Words(&["near", "eofb", "7", "0", "F"]), SHORTEST), 20),
     (Good(Words(&["near", "eofb", "2", "0", "F"]), SHORTEST), 20),
@@ -98,14 +74,3 @@ const NEAR: &[(Run, u128)] = &[
         21,
     ),
 ];
-
-#[test]
-fn longer_solutions_follow_the_shortest(rt: HostRuntime) {
-    check_looks(&rt, rt.alloc(), NEAR);
-}
-
-#[test]
-fn a_turn_more_goes_on_from_either_domino(rt: HostRuntime) {
-    let words = ["near", "dr-eofb", "2", "1", "R", "U"];
-    check_words(&rt, rt.alloc(), &words, EITHER_DOMINO);
-}

@@ -1,22 +1,18 @@
 //! Each growth of a run refused in turn, by its number, until a run ends well.
 use crate::devices::{Devices, FAULTLESS};
 use crate::refusing::Refusing;
-use crate::runs::Given::Input;
+use crate::runs::Given::{Input, Words};
 use crate::runs::Run::{self, Fault, Good};
 use crate::runs::{OUT_OF_MEMORY, Outcome, SHORTEST, STEPS, run_over, words_of};
 use linked_list_allocator::LocalHeap;
-use std::alloc::{AllocError, Global};
+use std::alloc::Global;
 use std::process::Abort;
-use std::test::Fail;
 
 /// The bytes of a heap with room for all.
 const AMPLE: usize = 1 << 22;
 
 /// More growths than any of the runs has.
 const MOST_GROWTHS: u64 = 100;
-
-/// What the source gives, if it is read.
-const INPUT: &[u8] = b"F";
 
 /// Devices of a run that takes its memory here.
 fn in_memory<'a>(memory: &'a Refusing<&'a LocalHeap>) -> Devices<'a> {
@@ -26,108 +22,74 @@ fn in_memory<'a>(memory: &'a Refusing<&'a LocalHeap>) -> Devices<'a> {
     }
 }
 
-/// What a run has to write and to return: this output if no growth is refused.
-fn outcome_of<'a>(is_granted: bool, output: &'a [u8]) -> Outcome<'a> {
-    if is_granted {
-        Outcome {
-            name: "a run with all its growths",
-            output,
-            error: b"",
-            status: 0,
-        }
+/// Makes a run with this memory, and returns whether it ended well. If it didn't, nothing was read, written or looked at.
+/// The words' own memory is another.
+fn ends_well<'a>(
+    rt: &impl Abort,
+    alloc: Global,
+    run: &Run<'static>,
+    memory: &'a Refusing<&'a LocalHeap>,
+) -> bool {
+    let (given, granted) = run.parts();
+    let (words, input) = given.parts();
+    let words = words_of(alloc, words).expect(rt, "memory for words");
+    let ran = run_over(alloc, &words, input, in_memory(memory));
+    let is_good = ran.status == 0;
+    let is_untouched = ran.input.reads == 0 && ran.out.writes == 0 && ran.looks == 0;
+    assert!(rt; is_good || is_untouched);
+    let wanted = if is_good {
+        granted
     } else {
         Outcome {
-            name: "a run with a growth refused",
+            name: "a growth refused",
             output: b"",
             error: OUT_OF_MEMORY,
             status: 3,
         }
-    }
+    };
+    wanted.compare(rt, ran.status, &ran.out, &ran.err);
+    drop(ran);
+    is_good
 }
 
-/// Words of a run, and what it writes.
-#[derive(Clone, Copy)]
-struct Growing<'a> {
-    words: &'a [&'a str],
-    output: &'a [u8],
+/// Makes the run with the growth after so many others refused. Nothing is left in the heap then.
+fn ends_well_after(rt: &impl Abort, alloc: Global, run: &Run<'static>, granted: u64) -> bool {
+    let heap = LocalHeap::new(alloc, AMPLE).expect(rt, "a heap");
+    let memory = Refusing::after(&heap, granted);
+    let is_good = ends_well(rt, alloc, run, &memory);
+    drop(memory);
+    assert!(rt; heap.used() == 0, "after {granted} growths");
+    is_good
 }
 
-impl Growing<'_> {
-    /// Makes the run with this memory, and returns whether it ended well. If it didn't, nothing was read, written or looked at.
-    /// The words' own memory is another.
-    fn ends_well(self, rt: &impl Abort, alloc: Global, memory: &Refusing<&LocalHeap>) -> bool {
-        let words = words_of(alloc, self.words).expect(rt, "memory for words");
-        let ran = run_over(alloc, &words, INPUT, in_memory(memory));
-        let is_good = ran.status == 0;
-        let is_untouched = ran.input.reads == 0 && ran.out.writes == 0 && ran.looks == 0;
-        assert!(rt; is_good || is_untouched);
-        outcome_of(is_good, self.output).compare(rt, ran.status, &ran.out, &ran.err);
-        drop(ran);
-        is_good
-    }
-
-    /// Makes the run with the growth after so many others refused. Nothing is left in the heap then.
-    fn ends_well_after(
-        self,
-        rt: &impl Abort,
-        alloc: Global,
-        granted: u64,
-    ) -> Result<bool, AllocError> {
-        let heap = LocalHeap::new(alloc, AMPLE)?;
-        let memory = Refusing::after(&heap, granted);
-        let is_good = self.ends_well(rt, alloc, &memory);
-        drop(memory);
-        assert!(rt; heap.used() == 0, "after {granted} growths");
-        Ok(is_good)
-    }
-
-    /// How many growths are refused, each in a run of its own, until one ends well.
-    fn growths(self, rt: &impl Abort, alloc: Global) -> Result<u64, AllocError> {
-        for granted in 0..MOST_GROWTHS {
-            if self.ends_well_after(rt, alloc, granted)? {
-                return Ok(granted);
-            }
+/// Some growths are refused, each in a run of its own, until one ends well.
+fn check_growths(rt: &impl Abort, alloc: Global, run: &Run<'static>) {
+    let mut refused = 0u64;
+    for granted in 0..MOST_GROWTHS {
+        if ends_well_after(rt, alloc, run, granted) {
+            break;
         }
-        Ok(MOST_GROWTHS)
+        refused = refused.saturating_add(1);
     }
-
-    /// Checks that some growths are refused, and that a run ends well once none is.
-    fn check(self, rt: &impl Abort, alloc: Global) -> Result<(), AllocError> {
-        let refused = self.growths(rt, alloc)?;
-        assert!(rt; 0 < refused && refused < MOST_GROWTHS);
-        Ok(())
-    }
+    assert!(rt; 0 < refused && refused < MOST_GROWTHS);
 }
 
-const RUNS: &[Growing] = &[
-    Growing {
-        words: &["invert", "R U' F2"],
-        output: b"F2 U R'\n",
-    },
-    Growing {
-        words: &["solve", "eofb", "7", "F"],
-        output: SHORTEST,
-    },
-    Growing {
-        words: &["solve", "eofb", "7"],
-        output: SHORTEST,
-    },
-    Growing {
-        words: &["near", "eofb", "7", "0", "F"],
-        output: SHORTEST,
-    },
-    Growing {
-        words: &["count", "drud-eofb", "5", "R", "U"],
-        output: b"length 2 solutions 2 nodes 28\n",
-    },
+const RUNS: &[Run] = &[
+    Good(Words(&["invert", "R U' F2"]), b"F2 U R'\n"),
+    Good(Words(&["solve", "eofb", "7", "F"]), SHORTEST),
+    Good(Input(&["solve", "eofb", "7"], b"F"), SHORTEST),
+    Good(Words(&["near", "eofb", "7", "0", "F"]), SHORTEST),
+    Good(
+        Words(&["count", "drud-eofb", "5", "R", "U"]),
+        b"length 2 solutions 2 nodes 28\n",
+    ),
 ];
 
 #[test]
-fn each_growth_of_a_run_is_refused(rt: HostRuntime) -> Result<(), Fail> {
+fn each_growth_of_a_run_is_refused(rt: HostRuntime) {
     for run in RUNS {
-        run.check(&rt, rt.alloc())?;
+        check_growths(&rt, rt.alloc(), run);
     }
-    Ok(())
 }
 
 /// What asks for no memory: lines from the source, scrambles, and the list of steps.
@@ -156,17 +118,15 @@ const WITHOUT_GROWTH: &[Run] = &[
 ];
 
 /// Makes a run with the first growth refused.
-pub fn check_first_refused(rt: &impl Abort, alloc: Global, run: Run<'_>) -> Result<(), AllocError> {
-    let heap = LocalHeap::new(alloc, AMPLE)?;
+pub fn check_first_refused(rt: &impl Abort, alloc: Global, run: Run<'_>) {
+    let heap = LocalHeap::new(alloc, AMPLE).expect(rt, "a heap");
     let memory = Refusing::after(&heap, 0);
     run.check(rt, alloc, in_memory(&memory));
-    Ok(())
 }
 
 #[test]
-fn runs_without_growth_end_well_with_the_first_refused(rt: HostRuntime) -> Result<(), Fail> {
+fn runs_without_growth_end_well_with_the_first_refused(rt: HostRuntime) {
     for run in WITHOUT_GROWTH {
-        check_first_refused(&rt, rt.alloc(), *run)?;
+        check_first_refused(&rt, rt.alloc(), *run);
     }
-    Ok(())
 }

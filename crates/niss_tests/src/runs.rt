@@ -3,6 +3,7 @@
 use crate::devices::{Bytes, Devices, FEW, Held};
 use niss_shell::{FromReader, Meter, ToWriter, run, run_in};
 use std::alloc::{AllocError, Global};
+use std::cell::Cell;
 use std::process::Abort;
 
 /// What is written of wrong words.
@@ -42,13 +43,8 @@ pub fn repeated(alloc: Global, text: &str, count: usize, end: &str) -> Result<St
     Ok(all)
 }
 
-/// Checks the bytes that a run wrote.
-pub fn check_bytes(rt: &impl Abort, written: &[u8], wanted: &[u8]) {
-    check_written(rt, "bytes", written, wanted);
-}
-
-/// The same, with what a failure names the run by.
-fn check_written(rt: &impl Abort, name: &str, written: &[u8], wanted: &[u8]) {
+/// Checks the bytes that a run wrote, which a failure names so.
+pub fn check_bytes(rt: &impl Abort, name: &str, written: &[u8], wanted: &[u8]) {
     assert_eq!(rt; written, wanted, "{name}");
 }
 
@@ -69,13 +65,16 @@ pub struct Outcome<'a> {
 
 impl Outcome<'_> {
     /// Compares it with what a run answered and what its targets hold. However a run ends, it writes no empty piece, and
-    /// its last call of the output is its one flush.
-    pub fn compare(self, rt: &impl Abort, status: u8, out: &Held, err: &Held) {
-        check_written(rt, self.name, out.bytes.as_slice(), self.output);
-        check_written(rt, self.name, err.bytes.as_slice(), self.error);
+    /// its last call of the output is its one flush, which comes before a fault is reported: so the output stands before the
+    /// fault if both go to one place.
+    pub fn compare(&self, rt: &impl Abort, status: u8, out: &Held<'_>, err: &Held<'_>) {
+        check_bytes(rt, self.name, out.bytes.as_slice(), self.output);
+        check_bytes(rt, self.name, err.bytes.as_slice(), self.error);
         check_count(rt, self.name, usize::from(status), usize::from(self.status));
         check_count(rt, "flushes", out.flushes, 1);
         assert!(rt; out.flush_tried, "a write after the flush");
+        let is_before = out.last < err.last || err.last == 0;
+        assert!(rt; is_before, "a fault reported before the flush");
         assert!(rt;
             out.least_brought.min(err.least_brought) > 0,
             "an empty write"
@@ -89,8 +88,8 @@ impl Outcome<'_> {
 pub struct Ran<'a> {
     pub status: u8,
     pub input: Bytes<'a>,
-    pub out: Held,
-    pub err: Held,
+    pub out: Held<'a>,
+    pub err: Held<'a>,
     pub looks: u128,
 }
 
@@ -99,11 +98,16 @@ pub fn run_over<'a>(
     alloc: Global,
     words: &[String],
     input: &'a [u8],
-    devices: Devices<'_>,
+    devices: Devices<'a>,
 ) -> Ran<'a> {
     let mut input = devices.source(input);
     let mut out = devices.target(alloc);
-    let mut err = devices.error_target(alloc);
+    let mut err = Devices {
+        most_written: devices.most_reported,
+        failed_write: devices.failed_report,
+        ..devices
+    }
+    .target(alloc);
     let mut looks = Meter::new();
     let status = match (devices.memory, devices.stream_error) {
         (Some(memory), _) => run_in(memory, words, &mut input, &mut out, &mut err, &mut looks),
@@ -147,27 +151,11 @@ pub enum Given<'a> {
 }
 
 impl<'a> Given<'a> {
-    fn parts(self) -> (&'a [&'a str], &'a [u8]) {
+    /// The words, and what the source gives if it is read.
+    pub fn parts(self) -> (&'a [&'a str], &'a [u8]) {
         match self {
             Given::Words(words) => (words, b"left".as_slice()),
             Given::Input(words, input) => (words, input),
-        }
-    }
-
-    /// The last word, by which a failure names the run.
-    pub fn name(self) -> &'a str {
-        let (words, _) = self.parts();
-        match words.last() {
-            Some(word) => *word,
-            None => "",
-        }
-    }
-
-    /// Checks that words alone have read nothing.
-    fn check_reads(self, rt: &impl Abort, reads: usize) {
-        match self {
-            Given::Words(_) => check_count(rt, "reads", reads, 0),
-            Given::Input(..) => (),
         }
     }
 }
@@ -186,16 +174,18 @@ pub enum Run<'a> {
 }
 
 impl<'a> Run<'a> {
-    /// What it is given, and its outcome.
-    pub fn parts(self) -> (Given<'a>, Outcome<'a>) {
-        let (given, output, error, status) = match self {
+    /// What it is given, and its outcome, which has the name of the last word.
+    pub fn parts(&self) -> (Given<'a>, Outcome<'a>) {
+        let (given, output, error, status) = match *self {
             Run::Good(given, output) => (given, output, b"".as_slice(), 0),
             Run::Fault(given, output, error) => (given, output, error, 1),
             Run::Usage(words) => (Given::Words(words), b"".as_slice(), USAGE, 2),
             Run::Failure(given, output, error) => (given, output, error, 3),
         };
+        let (words, _) = given.parts();
+        let name = words.last().copied().unwrap_or("");
         let outcome = Outcome {
-            name: given.name(),
+            name,
             output,
             error,
             status,
@@ -203,14 +193,21 @@ impl<'a> Run<'a> {
         (given, outcome)
     }
 
-    /// Makes it over such devices, and checks what it writes and returns.
-    pub fn check(self, rt: &impl Abort, alloc: Global, devices: Devices<'_>) -> Calls {
+    /// Makes it over such devices, and checks what it writes and returns, and that words alone have read nothing.
+    pub fn check(&self, rt: &impl Abort, alloc: Global, devices: Devices<'_>) -> Calls {
         let (given, outcome) = self.parts();
         let (words, input) = given.parts();
         let words = words_of(alloc, words).expect(rt, "memory for words");
-        let ran = run_over(alloc, &words, input, devices);
+        let clock = Cell::new(0);
+        let timed = Devices {
+            clock: Some(&clock),
+            ..devices
+        };
+        let ran = run_over(alloc, &words, input, timed);
         outcome.compare(rt, ran.status, &ran.out, &ran.err);
-        given.check_reads(rt, ran.input.reads);
+        if let Given::Words(_) = given {
+            check_count(rt, "reads", ran.input.reads, 0);
+        }
         let calls = Calls {
             reads: ran.input.reads,
             least_asked: ran.input.least_asked,
@@ -264,16 +261,6 @@ pub fn check_each_write(rt: &impl Abort, alloc: Global, run: Run<'_>, devices: D
     }
     let calls = run.check(rt, alloc, bytewise);
     check_count(rt, "writes", calls.writes, outcome.output.len());
-}
-
-/// Makes a run whose first write takes no byte: no other follows it.
-pub fn check_nothing_taken(rt: &impl Abort, alloc: Global, given: Given<'_>, devices: Devices<'_>) {
-    let full = Devices {
-        most_written: 0,
-        ..devices
-    };
-    let calls = Run::Failure(given, b"", CANNOT_WRITE).check(rt, alloc, full);
-    check_count(rt, "writes", calls.writes, 1);
 }
 
 /// Makes each of these runs, by calls that move few bytes.

@@ -1,9 +1,9 @@
 //! Shortest solutions of a step on one axis, and how many there are.
 use crate::runs::Given::{Input, Words};
 use crate::runs::Run::{self, Fault, Good};
-use crate::runs::{SHORTEST, check_looks, check_runs};
+use crate::runs::SHORTEST;
 
-const EDGES: &[Run] = &[
+pub const EDGES: &[Run] = &[
     Good(Words(&["solve", "eofb", "7", "F"]), SHORTEST),
     Good(Words(&["solve", "eofb", "007", "F"]), SHORTEST),
     Good(
@@ -37,12 +37,7 @@ const EDGES: &[Run] = &[
     Good(Input(&["solve", "eofb", "3"], b""), b""),
 ];
 
-#[test]
-fn edges_are_oriented(rt: HostRuntime) {
-    check_runs(&rt, rt.alloc(), EDGES);
-}
-
-const AFTER_ROTATIONS: &[Run] = &[
+pub const AFTER_ROTATIONS: &[Run] = &[
     Good(Words(&["solve", "eofb", "3", "x U"]), SHORTEST),
     Good(Words(&["solve", "eofb", "3", "x", "U"]), SHORTEST),
     Good(Words(&["solve", "eofb", "3", "x F"]), b"(0)\n\n"),
@@ -51,12 +46,7 @@ const AFTER_ROTATIONS: &[Run] = &[
     Good(Words(&["solve", "eofb", "3", "(F)"]), SHORTEST),
 ];
 
-#[test]
-fn axes_are_those_of_the_centres(rt: HostRuntime) {
-    check_runs(&rt, rt.alloc(), AFTER_ROTATIONS);
-}
-
-const DOMINOES: &[Run] = &[
+pub const DOMINOES: &[Run] = &[
     Good(
         Words(&["solve", "drud-eofb", "5", "R", "U"]),
         b"U' R (2)\nU' R' (2)\n\n",
@@ -76,12 +66,7 @@ const DOMINOES: &[Run] = &[
     ),
 ];
 
-#[test]
-fn dominoes_are_reached(rt: HostRuntime) {
-    check_runs(&rt, rt.alloc(), DOMINOES);
-}
-
-const NOT_STARTED: &[Run] = &[
+pub const NOT_STARTED: &[Run] = &[
     Fault(
         Words(&["solve", "drud-eofb", "5", "F"]),
         b"",
@@ -99,13 +84,8 @@ const NOT_STARTED: &[Run] = &[
     ),
 ];
 
-#[test]
-fn edges_are_to_be_oriented_first(rt: HostRuntime) {
-    check_runs(&rt, rt.alloc(), NOT_STARTED);
-}
-
 /// Runs, and how many positions they look at: each in each deepening.
-const COUNTED: &[(Run, u128)] = &[
+pub const COUNTED: &[(Run, u128)] = &[
     (
         Good(
             Words(&["solve", "eofb", "5", "F", "B"]),
@@ -191,13 +171,8 @@ const COUNTED: &[(Run, u128)] = &[
     (Good(Words(&["invert", "R"]), b"R'\n"), 0),
 ];
 
-#[test]
-fn solutions_and_looks_are_counted(rt: HostRuntime) {
-    check_looks(&rt, rt.alloc(), COUNTED);
-}
-
 /// The same of domino reductions.
-const COUNTED_DOMINOES: &[(Run, u128)] = &[
+pub const COUNTED_DOMINOES: &[(Run, u128)] = &[
     // 1 and 15
     (
         Good(
@@ -236,8 +211,3 @@ const COUNTED_DOMINOES: &[(Run, u128)] = &[
         16,
     ),
 ];
-
-#[test]
-fn dominoes_and_looks_are_counted(rt: HostRuntime) {
-    check_looks(&rt, rt.alloc(), COUNTED_DOMINOES);
-}

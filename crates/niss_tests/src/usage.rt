@@ -1,12 +1,9 @@
 //! Wrong words: each has its fault, in the order in which faults are looked for.
 use crate::devices::FEW;
-use crate::runs::Given::Words;
 use crate::runs::Run::Usage;
 use crate::runs::words_of;
 use niss_shell::UsageFault::{self, BadNumber, NoCommand, UnknownCommand, UnknownStep, WrongCount};
 use niss_shell::parse_words;
-use std::alloc::Global;
-use std::process::Abort;
 
 type Row = (&'static [&'static str], UsageFault);
 
@@ -75,19 +72,15 @@ const ROWS: &[Row] = &[
 ];
 
 /// Words that are refused have this fault, and a run of them says how the program is used.
-fn check_fault(rt: &impl Abort, alloc: Global, row: &Row) {
-    let (texts, fault) = *row;
-    let words = words_of(alloc, texts).expect(rt, "memory for words");
-    let Err(found) = parse_words(&words) else {
-        panic!(rt; "{} has no fault", Words(texts).name())
-    };
-    assert!(rt; found == fault, "{}", Words(texts).name());
-    Usage(texts).check(rt, alloc, FEW);
-}
-
 #[test]
 fn wrong_words_have_their_faults(rt: HostRuntime) {
-    for row in ROWS {
-        check_fault(&rt, rt.alloc(), row);
+    for (texts, fault) in ROWS {
+        let words = words_of(rt.alloc(), texts).expect(&rt, "memory for words");
+        let name = texts.last().copied().unwrap_or("no words");
+        let Err(found) = parse_words(&words) else {
+            panic!(&rt; "{name} has no fault")
+        };
+        assert!(&rt; found == *fault, "{name}");
+        Usage(texts).check(&rt, rt.alloc(), FEW);
     }
 }

@@ -3,26 +3,26 @@ use Rattle.std.proofs.Common.{◌≡◌, ℕ, ◌+◌, ◌<◌, ◌≤◌, ◌==
 use Rattle.std.specs.List.{All}
 use Rattle.std.proofs.lemmas.List.{take_more_set}
 use Rattle.std.proofs.lemmas.List.Elements.{All-nil, All-cons, All-head, All-tail, All-get_or, All-from_get_or, All-push}
-use Rattle.niss_text.specs.Kept.{HasOnlyWords, words_of_head}
-use Rattle.niss_text.specs.Lines.{IsLine, IsTold, end_size}
+use Rattle.niss_text.specs.Kept.{HasOnlyWords, words_of_any_head}
+use Rattle.niss_text.specs.Lines.{IsLine, IsToldBy, end_size}
 use Rattle.niss_text.specs.Known.{IsName, IsNamed, HaveHeads, HaveNames, AreNamedAs}
 use Rattle.niss_text.specs.declared.known.KnownPart.{KnownPart}
 use Rattle.niss_text.specs.declared.parts.Part.{Part}
 use Rattle.niss_text.specs.declared.text_line.TextLine.{TextLine}
 use Rattle.niss_text.proofs.KeptLemmas.{only_none}
 use Rattle.niss_text.proofs.PassedLemmas.{covers_order}
-unfoldable use Rattle.niss_text.specs.Lines.{Covers}
+unfoldable use Rattle.niss_text.specs.Lines.{CoversBy}
 unfoldable use Rattle.niss_text.specs.Known.{first_headed}
 
-told_name : (text : List ℕ) (line : TextLine) → IsLine line.begin line → IsTold text line → line.end ≤ length text → IsName text line.begin line.head_end
+told_name : (text : List ℕ) (line : TextLine) → IsLine line.begin line → IsToldBy words_of_any_head text line → line.end ≤ length text → IsName text line.begin line.head_end
 told_name text line is told within = record {
   order = is.head;
   within = omega (arith, is.label, is.words, is.title, is.moves, is.comment, within);
   words = told.kept.head;
 }
 
-pub covers_heads : (text : List ℕ) (from : ℕ) (lines : List TextLine) (to : ℕ) → Covers text from lines to → to ≤ length text → HaveHeads text lines
-unfolding Covers
+pub covers_heads : (text : List ℕ) (from : ℕ) (lines : List TextLine) (to : ℕ) → CoversBy words_of_any_head text from lines to → to ≤ length text → HaveHeads text lines
+unfolding CoversBy
 covers_heads text from [] to far within = All-nil (λ (l : TextLine). IsName text l.begin l.head_end)
 covers_heads text from (l ∷ ls) to far within =
     All-cons (λ (l : TextLine). IsName text l.begin l.head_end) l ls
@@ -39,8 +39,8 @@ unfolding first_headed
 name_of_lines text [] part far named = record {
   order = omega (arith, named.1, named.2);
   within = omega (arith, named.2);
-  words = subst (λ n. HasOnlyWords words_of_head (slice_range text n part.name_end)) (sym named.1)
-      (subst (λ n. HasOnlyWords words_of_head (slice_range text 0 n)) (sym named.2) (only_none words_of_head [] refl));
+  words = subst (λ n. HasOnlyWords words_of_any_head (slice_range text n part.name_end)) (sym named.1)
+      (subst (λ n. HasOnlyWords words_of_any_head (slice_range text 0 n)) (sym named.2) (only_none words_of_any_head [] refl));
 }
 name_of_lines text (l ∷ ls) part far named =
     by_head (l.is_headed == 0) (λ more. name_of_lines text ls part (All-tail (λ (l : TextLine). IsName text l.begin l.head_end) l ls far) more) named

@@ -8,7 +8,7 @@ use Rattle.std.proofs.lemmas.List.Elements.{All-append}
 use Rattle.std.proofs.lemmas.List.Folds.{list_any-append, list_any_none, concat-append}
 use Rattle.niss_text.specs.Signs.{HasNoMoves, AreSigns, is_digit, is_spacing, ends_title, begins_count}
 use Rattle.niss_text.proofs.SpacingLemmas.{signs_none, signs_joined, signs_more, signs_empty, spacing_ends}
-use Rattle.niss_text.specs.Kept.{HasNoLetters, BeginNoMoves, HasOnlyWords, IsCount, IsTitleEnd, LosesNone, words_of_count, words_of_head, small}
+use Rattle.niss_text.specs.Kept.{HasNoLetters, BeginNoMoves, HasOnlyWords, IsCount, IsTitleEnd, LosesNone, words_of_count, words_of_any_head, words_of_head, small}
 unfoldable use Rattle.niss_text.specs.Signs.{is_of_moves}
 unfoldable use Rattle.niss_text.specs.Kept.{spells, begins_moves}
 
@@ -104,6 +104,18 @@ only_word words bytes word = record {
   whole = append-nil bytes;
   each = all_one words bytes (inr word);
 }
+
+-- what has only words of a head has only those of any
+pub any_head : (bytes : List ℕ) → HasOnlyWords words_of_head bytes → HasOnlyWords words_of_any_head bytes
+any_head bytes only = record {
+  parts = only.parts;
+  whole = only.whole;
+  each = λ k none lt. wider (get_or only.parts k none) (only.each k none lt);
+}
+  where
+    wider : (part : List ℕ) → HasNoLetters part ⊎ Contains words_of_head (map small part) → HasNoLetters part ⊎ Contains words_of_any_head (map small part)
+    wider part (inl none) = inl none
+    wider part (inr word) = inr (suc (suc word.0), omega (arith, word.1), word.2)
 
 pub only_joined : (words : List (List ℕ)) (first others : List ℕ) → HasOnlyWords words first → HasOnlyWords words others → HasOnlyWords words (first ++ others)
 only_joined words first others a b = record {
@@ -314,7 +326,7 @@ part_from_start text n =
 
 -- a line of blanks
 pub kept_blank : (line : List ℕ) (head label_begin label_end moves begin : ℕ) → head ≡ 0 → label_begin ≡ begin → label_end ≡ begin → moves ≡ begin → HasNoMoves (take begin line) →
-    LosesNone line 0 head label_begin label_end moves
+    LosesNone words_of_head line 0 head label_begin label_end moves
 kept_blank line head label_begin label_end moves begin no_head first second third none = record {
   head = subst (λ n. HasOnlyWords words_of_head (slice_range line 0 n)) (sym no_head) (only_none words_of_head [] refl);
   margin = subst (λ n. BeginNoMoves (slice_range line n label_begin)) (sym no_head) (subst (λ n. BeginNoMoves (slice_range line 0 n)) (sym first)
@@ -325,7 +337,7 @@ kept_blank line head label_begin label_end moves begin no_head first second thir
 -- a line with a head after its margin
 pub kept_headed : (line rest : List ℕ) (begin n head label_begin label_end moves : ℕ) → head ≡ begin + n → HasNoMoves (take begin line) → rest ≡ drop begin line →
     HasOnlyWords words_of_head (take n rest) → BeginNoMoves (slice_range line (begin + n) label_begin) → IsTitleEnd (slice_range line label_end moves) →
-    LosesNone line 0 head label_begin label_end moves
+    LosesNone words_of_head line 0 head label_begin label_end moves
 kept_headed line rest begin n head label_begin label_end moves there none is words margin title = record {
   head = subst (λ k. HasOnlyWords words_of_head (slice_range line 0 k)) (sym there) (subst (λ v. HasOnlyWords words_of_head v) (part_from_start line (begin + n))
       (only_then words_of_head line rest begin n (only_moves words_of_head (take begin line) none) is words));

@@ -4,16 +4,16 @@ use Rattle.std.proofs.lemmas.Bool.{cases_lt}
 use Rattle.std.proofs.lemmas.List.{take_more_set, take-take, take_all, set_past, drop-set-lt, drop-drop, get_or-drop, length-drop}
 use Rattle.niss_text.specs.declared.text_line.TextLine.{TextLine}
 use Rattle.niss_text.specs.Signs.{ends_line}
-use Rattle.niss_text.specs.Lines.{IsLine, IsTold, IsUnbroken, IsEnd, end_of, end_size}
-unfoldable use Rattle.niss_text.specs.Lines.{Covers, Counts, AreNumbered}
+use Rattle.niss_text.specs.Lines.{Covers, IsLine, IsTold, IsUnbroken, IsEnd, end_of, end_size}
+unfoldable use Rattle.niss_text.specs.Lines.{CoversBy, Counts, AreNumbered}
 
 pub covers_none : (text : List ℕ) (at : ℕ) → Covers text at [] at
-unfolding Covers
+unfolding CoversBy
 covers_none text at = refl
 
 pub covers_more : (text : List ℕ) (from : ℕ) (lines : List TextLine) (to : ℕ) (line : TextLine) (size : ℕ) → Covers text from lines to → IsLine to line → IsTold text line →
     line.end ≡ to + size → IsUnbroken text to size → IsEnd text line.end → Covers text from (lines ++ line ∷ []) (line.end + end_size text line.end)
-unfolding Covers
+unfolding CoversBy
 covers_more text from [] to line size same is told end whole ended =
     subst (λ (at : ℕ). IsLine at line × (IsTold text line × ((n : ℕ) × (line.end ≡ at + n) × IsUnbroken text at n × IsEnd text line.end
     × (line.end + end_size text line.end ≡ line.end + end_size text line.end)))) (sym same) (is, (told, (size, end, whole, ended, refl)))

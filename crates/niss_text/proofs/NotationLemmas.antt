@@ -4,7 +4,7 @@ use Rattle.std.proofs.lemmas.Bool.Decides.{nat_tests}
 use Rattle.niss_text.specs.Doubts.{is_capital}
 use Rattle.niss_text.specs.Kept.{AreInNotation, begins_line}
 unfoldable use Rattle.niss_text.specs.Signs.{is_of_moves}
-unfoldable use Rattle.niss_text.specs.Kept.{follows_move, needs_more}
+unfoldable use Rattle.niss_text.specs.Kept.{follows_move}
 
 begins_so : (b : ℕ) → begins_line b ≡ true → follows_move 32 b ≡ true
 unfolding follows_move

@@ -5,11 +5,12 @@ use Rattle.std.proofs.lemmas.List.{drop-drop, drop-take}
 use Rattle.niss_text.specs.declared.text_line.TextLine.{TextLine}
 use Rattle.niss_text.specs.declared.parts.Part.{Part}
 use Rattle.niss_text.specs.Signs.{ends_line}
+use Rattle.niss_text.specs.Kept.{words_of_any_head}
 use Rattle.niss_text.specs.Known.{HasBody, IsRead}
-use Rattle.niss_text.specs.Lines.{IsLine, IsTold, IsUnbroken, IsEnd, HasNoneBetween, end_size, has_moves}
+use Rattle.niss_text.specs.Lines.{IsLine, IsToldBy, IsUnbroken, IsEnd, HasNoneBetween, end_size, has_moves}
 use Rattle.niss_text.proofs.LineLemmas.{counts_none}
 use Rattle.niss_text.proofs.PassedLemmas.{between_on, between_order, counts_order, none_between, line_between, head_between, covers_order, count_line}
-unfoldable use Rattle.niss_text.specs.Lines.{Covers, Counts}
+unfoldable use Rattle.niss_text.specs.Lines.{CoversBy, Counts}
 
 -- what a part's body has up to a place: no moves stand before it, and it has so many lines at most
 abbrev pub BodyUpTo : (text : List ℕ) (from count at body : ℕ) → Type 0
@@ -33,7 +34,7 @@ pub record Further (part next : Part) (line : TextLine) : Type 0 where
 
 up_to_none : (text : List ℕ) (from count : ℕ) (part : Part) → part.has_head ≡ false → part.has_moves ≡ false → part.has_body ≡ false → UpTo text from count from part
 up_to_none text from count part head moves body = record {
-  none = λ e. none_between text from;
+  none = λ e. none_between words_of_any_head text from;
   body = λ e. absurd (false≢true (sym (or_from part.has_head part.has_body head body) ∙ e));
   bare = λ e. moves;
 }
@@ -43,9 +44,9 @@ either true b some = refl
 either false b (inl is) = absurd (false≢true is)
 either false b (inr is) = is
 
-part_next : (text : List ℕ) (from count at : ℕ) (part next : Part) (line : TextLine) (lines : List TextLine) → Covers text at (line ∷ lines) (length text) →
+part_next : (text : List ℕ) (from count at : ℕ) (part next : Part) (line : TextLine) (lines : List TextLine) → CoversBy words_of_any_head text at (line ∷ lines) (length text) →
     Further part next line → UpTo text from count at part → UpTo text from (count + 1) (line.end + end_size text line.end) next
-unfolding Covers
+unfolding CoversBy
 part_next text from count at part next line lines far step so_far = record {
   none = λ no.
       let both = or_parts part.has_moves (has_moves line) (sym step.moves ∙ no) in
@@ -57,7 +58,7 @@ part_next text from count at part next line lines far step so_far = record {
     is : IsLine at line
     is = far.0
 
-    told : IsTold text line
+    told : IsToldBy words_of_any_head text line
     told = far.1.0
 
     size : ℕ
@@ -164,7 +165,7 @@ pub record Since (text : List ℕ) (from count at : ℕ) (part : Part) : Type 0 
 pub since_none : (text : List ℕ) (from : ℕ) (part : Part) → part.is_begun ≡ false → part.has_head ≡ false → part.has_moves ≡ false → part.has_body ≡ false →
     part.name_end ≡ 0 → Since text from 0 from part
 since_none text from part unbegun head moves body name = record {
-  unbegun = λ e. (none_between text from, (head, (moves, (body, name))));
+  unbegun = λ e. (none_between words_of_any_head text from, (head, (moves, (body, name))));
   begun = λ e. absurd (false≢true (sym unbegun ∙ e));
 }
 
@@ -176,9 +177,9 @@ pub record Begins (part next : Part) (line : TextLine) : Type 0 where
   pub named : (line.is_headed ≡ 0 → ⊥) → part.has_head ≡ false → (next.name_begin ≡ line.begin) × (next.name_end ≡ line.head_end)
   pub kept : (line.is_headed ≡ 0) ⊎ (part.has_head ≡ true) → (next.name_begin ≡ part.name_begin) × (next.name_end ≡ part.name_end)
 
-pub since_next : (text : List ℕ) (from count at : ℕ) (part next : Part) (line : TextLine) (lines : List TextLine) → Covers text at (line ∷ lines) (length text) →
-    Further part next line → Begins part next line → Since text from count at part → Since text from (count + 1) (line.end + end_size text line.end) next
-unfolding Covers
+pub since_next : (text : List ℕ) (from count at : ℕ) (part next : Part) (line : TextLine) (lines : List TextLine) → CoversBy words_of_any_head text at (line ∷ lines)
+    (length text) → Further part next line → Begins part next line → Since text from count at part → Since text from (count + 1) (line.end + end_size text line.end) next
+unfolding CoversBy
 since_next text from count at part next line lines far step begin so_far = record {
   unbegun = λ e. by_unbegun e begin.unbegun;
   begun = λ e. by_begun e part.is_begun refl;
@@ -241,18 +242,18 @@ since_next text from count at part next line lines far step begin so_far = recor
         begun_at at (begin.begins was e ∙ is.begins) (omega arith) before.0 (up_to_none text at count part before.1.0 before.1.1.0 before.1.1.1.0) (inl before.1.1.1.1)
 
 -- the place of the first of some lines, or the end
-pub first_place : (text : List ℕ) (at : ℕ) (line : TextLine) (lines : List TextLine) (to : ℕ) → Covers text at (line ∷ lines) to → line.begin ≡ at
-unfolding Covers
+pub first_place : (text : List ℕ) (at : ℕ) (line : TextLine) (lines : List TextLine) (to : ℕ) → CoversBy words_of_any_head text at (line ∷ lines) to → line.begin ≡ at
+unfolding CoversBy
 first_place text at line lines to far = far.0.begins
 
-pub last_place : (text : List ℕ) (at : ℕ) (lines : List TextLine) (to : ℕ) → length lines ≡ 0 → Covers text at lines to → to ≡ at
-unfolding Covers
+pub last_place : (text : List ℕ) (at : ℕ) (lines : List TextLine) (to : ℕ) → length lines ≡ 0 → CoversBy words_of_any_head text at lines to → to ≡ at
+unfolding CoversBy
 last_place text at [] to none same = sym same
 last_place text at (l ∷ ls) to none far = absurd (omega (arith, none))
 
-pub covers_rest : (text : List ℕ) (at : ℕ) (line : TextLine) (lines : List TextLine) (to : ℕ) → Covers text at (line ∷ lines) to →
-    Covers text (line.end + end_size text line.end) lines to
-unfolding Covers
+pub covers_rest : (text : List ℕ) (at : ℕ) (line : TextLine) (lines : List TextLine) (to : ℕ) → CoversBy words_of_any_head text at (line ∷ lines) to →
+    CoversBy words_of_any_head text (line.end + end_size text line.end) lines to
+unfolding CoversBy
 covers_rest text at line lines to far = far.1.1.4
 
 pub is_read : (text : List ℕ) (from count at end : ℕ) (part : Part) → end ≡ at → at ≤ length text → Since text from count at part →
@@ -296,7 +297,7 @@ is_read text from count at end part same within so_far = record {
 pub record Unread (text : List ℕ) (at written next : ℕ) (lines : List TextLine) : Type 0 where
   pub place : ℕ
   pub before : HasNoneBetween text at place
-  pub covers : Covers text place lines (length text)
+  pub covers : CoversBy words_of_any_head text place lines (length text)
   pub few : written ≤ next
 
 -- what follows a part of some lines, if those behind it are the same in others
@@ -327,9 +328,9 @@ body_low text at most part body = (
 
 -- no lines are left
 pub all_read : (text : List ℕ) (at place : ℕ) (lines : List TextLine) (next count : ℕ) → count ≤ next → HasNoneBetween text at place →
-    Covers text place (slice_range lines next count) (length text) → HasNoneBetween text at (length text)
-unfolding Covers
+    CoversBy words_of_any_head text place (slice_range lines next count) (length text) → HasNoneBetween text at (length text)
+unfolding CoversBy
 all_read text at place lines next count le before far =
     let none : count - next ≡ 0 = omega (arith, le) in
-    let end : Covers text place [] (length text) = subst (λ n. Covers text place (take n (drop next lines)) (length text)) none far in
+    let end : CoversBy words_of_any_head text place [] (length text) = subst (λ n. CoversBy words_of_any_head text place (take n (drop next lines)) (length text)) none far in
     subst (λ n. HasNoneBetween text at n) end before

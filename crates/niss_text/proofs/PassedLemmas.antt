@@ -3,28 +3,28 @@ use Rattle.std.proofs.Common.{◌≡◌, ℕ, zero, suc, ◌+◌, ◌-◌, ◌<�
 use Rattle.std.proofs.lemmas.Bool.{cases_lt, false≢true}
 use Rattle.niss_text.specs.declared.text_line.TextLine.{TextLine}
 use Rattle.niss_text.specs.Signs.{ends_line}
-use Rattle.niss_text.specs.Kept.{HasOnlyWords, words_of_head}
-use Rattle.niss_text.specs.Lines.{IsLine, IsTold, IsUnbroken, IsEnd, MayBeHead, HasNoneBetween, Remain, end_of, end_size, has_moves}
+use Rattle.niss_text.specs.Kept.{HasOnlyWords, words_of_any_head}
+use Rattle.niss_text.specs.Lines.{IsLine, IsToldBy, IsUnbroken, IsEnd, MayBeHead, HasNoneBetween, HasNoneBy, Remain, end_of, end_size, has_moves}
 use Rattle.niss_text.proofs.KeptLemmas.{only_none, only_joined, parts_joined}
 use Rattle.niss_text.proofs.LineLemmas.{counts_more, unbroken_at, ended_at, end_size_at}
-unfoldable use Rattle.niss_text.specs.Lines.{Covers, Counts, Passes}
+unfoldable use Rattle.niss_text.specs.Lines.{CoversBy, Counts, Passes}
 
-head_none : (text : List ℕ) (at : ℕ) → MayBeHead text at at
-head_none text at = record {
+head_none : (words : List (List ℕ)) (text : List ℕ) (at : ℕ) → MayBeHead words text at at
+head_none words text at = record {
   order = omega arith;
   unbroken = λ k lt. absurd (omega (arith, lt));
-  words = subst (λ k. HasOnlyWords words_of_head (take k (drop at text))) same (only_none words_of_head [] refl);
+  words = subst (λ k. HasOnlyWords words (take k (drop at text))) same (only_none words [] refl);
 }
   where
     same : 0 ≡ at - at
     same = omega arith
 
-head_joined : (text : List ℕ) (a b c : ℕ) → MayBeHead text a b → MayBeHead text b c → MayBeHead text a c
+head_joined : (text : List ℕ) (a b c : ℕ) → MayBeHead words_of_any_head text a b → MayBeHead words_of_any_head text b c → MayBeHead words_of_any_head text a c
 head_joined text a b c one two = record {
   order = omega (arith, one.order, two.order);
   unbroken = λ k lt. by_place k lt (cases_lt k (b - a));
-  words = subst (λ v. HasOnlyWords words_of_head v) (parts_joined text a b c one.order two.order)
-      (only_joined words_of_head (slice_range text a b) (slice_range text b c) one.words two.words);
+  words = subst (λ v. HasOnlyWords words_of_any_head v) (parts_joined text a b c one.order two.order)
+      (only_joined words_of_any_head (slice_range text a b) (slice_range text b c) one.words two.words);
 }
   where
     by_place : (k : ℕ) → k < c - a → (k < b - a) ⊎ (b - a ≤ k) → ends_line (get_or text (a + k) 0) ≡ false
@@ -33,17 +33,18 @@ head_joined text a b c one two = record {
         let same : b + (k - (b - a)) ≡ a + k = omega (arith, more, one.order) in
         subst (λ n. ends_line (get_or text n 0) ≡ false) same (two.unbroken (k - (b - a)) (omega (arith, lt, more, one.order, two.order)))
 
-pub none_between : (text : List ℕ) (at : ℕ) → HasNoneBetween text at at
+pub none_between : (words : List (List ℕ)) (text : List ℕ) (at : ℕ) → HasNoneBy words text at at
 unfolding Passes
-none_between text at = ([], head_none text at)
+none_between words text at = ([], head_none words text at)
 
-passes_behind : (text : List ℕ) (a b : ℕ) (lines : List TextLine) (c : ℕ) → MayBeHead text a b → Passes text b lines c → Passes text a lines c
+passes_behind : (text : List ℕ) (a b : ℕ) (lines : List TextLine) (c : ℕ) → MayBeHead words_of_any_head text a b → Passes words_of_any_head text b lines c →
+    Passes words_of_any_head text a lines c
 unfolding Passes
 passes_behind text a b [] c head far = head_joined text a b c head far
 passes_behind text a b (l ∷ ls) c head far = (head_joined text a b l.begin head far.0, far.1)
 
-passes_on : (text : List ℕ) (a : ℕ) (lines : List TextLine) (b : ℕ) (others : List TextLine) (c : ℕ) → Passes text a lines b → Passes text b others c →
-    Passes text a (lines ++ others) c
+passes_on : (text : List ℕ) (a : ℕ) (lines : List TextLine) (b : ℕ) (others : List TextLine) (c : ℕ) → Passes words_of_any_head text a lines b →
+    Passes words_of_any_head text b others c → Passes words_of_any_head text a (lines ++ others) c
 unfolding Passes
 passes_on text a [] b others c far next = passes_behind text a b others c far next
 passes_on text a (l ∷ ls) b others c far next = (
@@ -69,30 +70,30 @@ passes_on text a (l ∷ ls) b others c far next = (
 pub between_on : (text : List ℕ) (a b c : ℕ) → HasNoneBetween text a b → HasNoneBetween text b c → HasNoneBetween text a c
 between_on text a b c one two = (one.0 ++ two.0, passes_on text a one.0 b two.0 c one.1 two.1)
 
-pub passes_order : (text : List ℕ) (a : ℕ) (lines : List TextLine) (b : ℕ) → Passes text a lines b → a ≤ b
+pub passes_order : (text : List ℕ) (a : ℕ) (lines : List TextLine) (b : ℕ) → Passes words_of_any_head text a lines b → a ≤ b
 unfolding Passes
 passes_order text a [] b far = far.order
 passes_order text a (l ∷ ls) b far =
     let is : IsLine l.begin l = far.1.0 in
-    let head : MayBeHead text a l.begin = far.0 in
+    let head : MayBeHead words_of_any_head text a l.begin = far.0 in
     omega (arith, head.order, is.head, is.label, is.words, is.title, is.moves, is.comment, passes_order text (l.end + end_size text l.end) ls b far.1.1.1.1.4)
 
 pub between_order : (text : List ℕ) (a b : ℕ) → HasNoneBetween text a b → a ≤ b
 between_order text a b far = passes_order text a far.0 b far.1
 
 -- a line without moves
-pub line_between : (text : List ℕ) (at size : ℕ) (line : TextLine) → IsLine at line → IsTold text line → has_moves line ≡ false → line.end ≡ at + size →
+pub line_between : (text : List ℕ) (at size : ℕ) (line : TextLine) → IsLine at line → IsToldBy words_of_any_head text line → has_moves line ≡ false → line.end ≡ at + size →
     IsUnbroken text at size → IsEnd text line.end → HasNoneBetween text at (line.end + end_size text line.end)
 unfolding Passes
 line_between text at size line is told none end whole ended = (
   line ∷ [],
-  subst (λ n. MayBeHead text at n × (IsLine n line × (IsTold text line × ((has_moves line ≡ false) × ((m : ℕ) × (line.end ≡ n + m)
-      × IsUnbroken text n m × IsEnd text line.end × MayBeHead text (line.end + end_size text line.end) (line.end + end_size text line.end))))))
-      (sym is.begins) (head_none text at, (is, (told, (none, (size, end, whole, ended, head_none text (line.end + end_size text line.end)))))),
+  subst (λ n. MayBeHead words_of_any_head text at n × (IsLine n line × (IsToldBy words_of_any_head text line × ((has_moves line ≡ false) × ((m : ℕ) × (line.end ≡ n + m)
+      × IsUnbroken text n m × IsEnd text line.end × MayBeHead words_of_any_head text (line.end + end_size text line.end) (line.end + end_size text line.end))))))
+      (sym is.begins) (head_none words_of_any_head text at, (is, (told, (none, (size, end, whole, ended, head_none words_of_any_head text (line.end + end_size text line.end)))))),
 )
 
 -- the head of a line
-pub head_between : (text : List ℕ) (at size : ℕ) (line : TextLine) → IsLine at line → IsTold text line → line.end ≡ at + size → IsUnbroken text at size →
+pub head_between : (text : List ℕ) (at size : ℕ) (line : TextLine) → IsLine at line → IsToldBy words_of_any_head text line → line.end ≡ at + size → IsUnbroken text at size →
     HasNoneBetween text at line.head_end
 unfolding Passes
 head_between text at size line is told end whole = (
@@ -100,12 +101,12 @@ head_between text at size line is told end whole = (
   record {
     order = omega (arith, is.begins, is.head);
     unbroken = λ k lt. whole k (omega (arith, lt, end, is.label, is.words, is.title, is.moves, is.comment));
-    words = subst (λ n. HasOnlyWords words_of_head (slice_range text n line.head_end)) is.begins told.kept.head;
+    words = subst (λ n. HasOnlyWords words_of_any_head (slice_range text n line.head_end)) is.begins told.kept.head;
   },
 )
 
-pub covers_order : (text : List ℕ) (from : ℕ) (lines : List TextLine) (to : ℕ) → Covers text from lines to → from ≤ to
-unfolding Covers
+pub covers_order : (text : List ℕ) (from : ℕ) (lines : List TextLine) (to : ℕ) → CoversBy words_of_any_head text from lines to → from ≤ to
+unfolding CoversBy
 covers_order text from [] to same = omega (arith, same)
 covers_order text from (l ∷ ls) to far =
     let is : IsLine from l = far.0 in

@@ -2,20 +2,23 @@
 use Rattle.std.proofs.Common.{◌≡◌, ℕ, ◌+◌, ◌-◌, ◌<◌, ◌≤◌, List, [], ◌∷◌, ◌++◌, length, take, drop, set, slice_range, sym, subst, ap, ◌∙◌, length-drop, arith}
 use Rattle.std.proofs.lemmas.List.{take_more_set, drop-set-add}
 use Rattle.niss_text.specs.declared.text_line.TextLine.{TextLine}
-use Rattle.niss_text.specs.Lines.{IsLine, IsTold, IsUnbroken, IsEnd, HasNoneBetween, end_size}
+use Rattle.niss_text.specs.Kept.{words_of_any_head}
+use Rattle.niss_text.specs.Lines.{IsLine, IsTold, IsUnbroken, IsEnd, HasNoneBetween, HasNoneBy, Takes, end_size}
 use Rattle.niss_text.proofs.LineLemmas.{unbroken_at, ended_at, line_ends}
 use Rattle.niss_text.proofs.PassedLemmas.{none_between, between_on}
-unfoldable use Rattle.niss_text.specs.Lines.{Takes}
+unfoldable use Rattle.niss_text.specs.Lines.{TakesBy}
 
-takes_more : (text : List ℕ) (from : ℕ) (lines : List TextLine) (to : ℕ) (line : TextLine) (size : ℕ) → Takes text from lines to → IsLine to line → IsTold text line →
-    line.end ≡ to + size → IsUnbroken text to size → IsEnd text line.end → Takes text from (lines ++ line ∷ []) (line.end + end_size text line.end)
-unfolding Takes
-takes_more text from [] to line size far is told end whole ended =
-    subst (λ (at : ℕ). HasNoneBetween text from at × (IsLine at line × (IsTold text line × ((n : ℕ) × (line.end ≡ at + n) × IsUnbroken text at n × IsEnd text line.end
-    × HasNoneBetween text (line.end + end_size text line.end) (line.end + end_size text line.end))))) (sym is.begins)
-    (far, (is, (told, (size, end, whole, ended, none_between text (line.end + end_size text line.end)))))
-takes_more text from (l ∷ ls) to line size far is told end whole ended =
-    (far.0, (far.1.0, (far.1.1.0, (far.1.1.1.0, far.1.1.1.1, far.1.1.1.2, far.1.1.1.3, takes_more text (l.end + end_size text l.end) ls to line size far.1.1.1.4 is told end whole ended))))
+takes_more : (words : List (List ℕ)) (text : List ℕ) (from : ℕ) (lines : List TextLine) (to : ℕ) (line : TextLine) (size : ℕ) → TakesBy words text from lines to →
+    IsLine to line → IsTold text line → line.end ≡ to + size → IsUnbroken text to size → IsEnd text line.end →
+    TakesBy words text from (lines ++ line ∷ []) (line.end + end_size text line.end)
+unfolding TakesBy
+takes_more words text from [] to line size far is told end whole ended =
+    subst (λ (at : ℕ). HasNoneBy words text from at × (IsLine at line × (IsTold text line × ((n : ℕ) × (line.end ≡ at + n) × IsUnbroken text at n × IsEnd text line.end
+    × HasNoneBy words text (line.end + end_size text line.end) (line.end + end_size text line.end))))) (sym is.begins)
+    (far, (is, (told, (size, end, whole, ended, none_between words text (line.end + end_size text line.end)))))
+takes_more words text from (l ∷ ls) to line size far is told end whole ended =
+    let more = takes_more words text (l.end + end_size text l.end) ls to line size far.1.1.1.4 is told end whole ended in
+    (far.0, (far.1.0, (far.1.1.0, (far.1.1.1.0, far.1.1.1.1, far.1.1.1.2, far.1.1.1.3, more))))
 
 -- one more of some items in memory, from one of them on
 slice_more : {Item : Type 0} (items : List Item) (first count : ℕ) (item : Item) → first ≤ count → count < length items →
@@ -29,18 +32,19 @@ slice_more items first count item low room =
     ∙ take_more_set (drop first items) (count - first) item (omega (arith, low, room, length-drop first items))
 
 -- the same in memory
-pub takes_next : (text : List ℕ) (from first : ℕ) (lines : List TextLine) (count now size whole : ℕ) (line : TextLine) → first ≤ count → count < length lines →
-    Takes text from (slice_range lines first count) now → IsLine now line → IsTold text line → line.end ≡ now + size → IsUnbroken (drop now text) 0 size →
-    whole ≡ size + end_size (drop now text) size → IsEnd (drop now text) size → Takes text from (slice_range (set lines count line) first (count + 1)) (now + whole)
-takes_next text from first lines count now size whole line low room far is told end unbroken all ends =
-    subst (λ (ls : List TextLine). Takes text from ls (now + whole)) (sym (slice_more lines first count line low room))
-    (subst (λ (n : ℕ). Takes text from (slice_range lines first count ++ line ∷ []) n) (line_ends text now size whole line end all)
-    (takes_more text from (slice_range lines first count) now line size far is told end (unbroken_at text now size unbroken)
+pub takes_next : (words : List (List ℕ)) (text : List ℕ) (from first : ℕ) (lines : List TextLine) (count now size whole : ℕ) (line : TextLine) → first ≤ count →
+    count < length lines → TakesBy words text from (slice_range lines first count) now → IsLine now line → IsTold text line → line.end ≡ now + size →
+    IsUnbroken (drop now text) 0 size → whole ≡ size + end_size (drop now text) size → IsEnd (drop now text) size →
+    TakesBy words text from (slice_range (set lines count line) first (count + 1)) (now + whole)
+takes_next words text from first lines count now size whole line low room far is told end unbroken all ends =
+    subst (λ (ls : List TextLine). TakesBy words text from ls (now + whole)) (sym (slice_more lines first count line low room))
+    (subst (λ (n : ℕ). TakesBy words text from (slice_range lines first count ++ line ∷ []) n) (line_ends text now size whole line end all)
+    (takes_more words text from (slice_range lines first count) now line size far is told end (unbroken_at text now size unbroken)
     (subst (λ (n : ℕ). IsEnd text n) (sym end) (ended_at text now size ends))))
 
 -- no lines, from a place of the text on
 pub takes_none : (text : List ℕ) (from : ℕ) (lines : List TextLine) (at to : ℕ) → HasNoneBetween text from to → Takes text from (slice_range lines at at) to
-unfolding Takes
+unfolding TakesBy
 takes_none text from lines at to far = subst (λ n. Takes text from (take n (drop at lines)) to) none far
   where
     none : 0 ≡ at - at
@@ -55,7 +59,7 @@ takes_first text lines n to far = subst (λ (k : ℕ). Takes text 0 (take k line
 
 -- what follows has no moves
 pub takes_further : (text : List ℕ) (from : ℕ) (lines : List TextLine) (to more : ℕ) → Takes text from lines to → HasNoneBetween text to more → Takes text from lines more
-unfolding Takes
+unfolding TakesBy
 takes_further text from [] to more far next = between_on text from to more far next
 takes_further text from (l ∷ ls) to more far next =
     (far.0, (far.1.0, (far.1.1.0, (far.1.1.1.0, far.1.1.1.1, far.1.1.1.2, far.1.1.1.3, takes_further text (l.end + end_size text l.end) ls to more far.1.1.1.4 next))))
@@ -70,5 +74,5 @@ takes_behind text lines n to more far next =
     same = omega arith
 
 pub takes_begun : (text : List ℕ) → Takes text 0 [] 0
-unfolding Takes
-takes_begun text = none_between text 0
+unfolding TakesBy
+takes_begun text = none_between words_of_any_head text 0

@@ -3,6 +3,7 @@ use Rattle.std.proofs.Common.{◌≡◌, ℕ, zero, suc, ◌+◌, ◌-◌, ◌<�
 use Rattle.std.proofs.lemmas.List.{drop-take, take_more_set}
 use Rattle.niss_text.specs.declared.known.KnownPart.{KnownPart}
 use Rattle.niss_text.specs.declared.text_line.TextLine.{TextLine}
+use Rattle.niss_text.specs.Kept.{words_of_any_head}
 use Rattle.niss_text.specs.Lines.{HasNoneBetween, Takes}
 use Rattle.niss_text.proofs.LineLemmas.{fewer_kept}
 use Rattle.niss_text.proofs.PassedLemmas.{between_on, none_between}
@@ -10,13 +11,13 @@ unfoldable use Rattle.niss_text.specs.Known.{HaveLines, PartsTake}
 
 pub parts_none : (text : List ℕ) (lines : List TextLine) (at : ℕ) → PartsTake text lines at [] at
 unfolding PartsTake
-parts_none text lines at = none_between text at
+parts_none text lines at = none_between words_of_any_head text at
 
 parts_more : (text : List ℕ) (lines : List TextLine) (from : ℕ) (parts : List KnownPart) (to : ℕ) (part : KnownPart) (end : ℕ) → PartsTake text lines from parts to →
     HasNoneBetween text to part.begin → (part.name_end ≡ 0) ⊎ ((part.begin ≤ part.name_begin) × (part.name_end ≤ end)) →
     Takes text part.begin (slice_range lines part.first_line part.end_line) end → PartsTake text lines from (parts ++ part ∷ []) end
 unfolding PartsTake
-parts_more text lines from [] to part end far before named takes = (end, between_on text from to part.begin far before, named, takes, none_between text end)
+parts_more text lines from [] to part end far before named takes = (end, between_on text from to part.begin far before, named, takes, none_between words_of_any_head text end)
 parts_more text lines from (p ∷ ps) to part end far before named takes =
     (far.0, far.1, far.2, far.3, parts_more text lines far.0 ps to part end far.4 before named takes)
 

@@ -30,7 +30,7 @@ pub record IsSeen (bytes : List ℕ) (seen : Line) : Type 0 where
   pub labelled : IsLabelled bytes (drop seen.label_begin bytes) seen.label_begin seen.moves
   pub headed : is_a_head seen.head_kind ≡ nat_lt 0 seen.head
   pub said : seen.is_solution ≡ true → SaysSolution (slice_range bytes seen.label_begin seen.label_end)
-  pub kept : LosesNone bytes 0 seen.head seen.label_begin seen.label_end seen.moves
+  pub kept : LosesNone words_of_head bytes 0 seen.head seen.label_begin seen.label_end seen.moves
   pub blank : seen.is_blank ≡ true → HasNoMoves (drop seen.head bytes)
   pub alone : seen.is_head_alone ≡ true → HasNoMoves (drop seen.head bytes)
   pub comment : begins_with_turn (drop seen.comment bytes) ≡ false
@@ -53,8 +53,8 @@ lt_shift : (m n : ℕ) → nat_lt 0 n ≡ nat_lt m (m + n)
 lt_shift m n = grind (arith, nat_tests)
 
 parts_kept : (text : List ℕ) (now : ℕ) (seen : Line) (line : TextLine) → StandsAt now seen line →
-    LosesNone (take seen.length (drop now text)) 0 seen.head seen.label_begin seen.label_end seen.moves →
-    LosesNone text line.begin line.head_end line.label_begin line.label_end line.moves
+    LosesNone words_of_head (take seen.length (drop now text)) 0 seen.head seen.label_begin seen.label_end seen.moves →
+    LosesNone words_of_head text line.begin line.head_end line.label_begin line.label_end line.moves
 parts_kept text now seen line at kept =
     let size : ℕ = seen.length in
     let head : seen.head ≤ size = omega (arith, seen.head_in, seen.label_in, seen.words_in, seen.moves_in, seen.comment_in, seen.slashes_in) in

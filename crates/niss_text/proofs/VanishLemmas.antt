@@ -7,37 +7,30 @@ use Rattle.std.proofs.lemmas.List.{get_or-take, get_or-drop}
 use Rattle.std.proofs.lemmas.List.Elements.{All-head, All-tail}
 use Rattle.niss_text.specs.declared.text_line.TextLine.{TextLine}
 use Rattle.niss_text.specs.Signs.{ends_line}
-use Rattle.niss_text.specs.Doubts.{is_capital}
-use Rattle.niss_text.specs.Kept.{HasNoLetters, AreInNotation, ArePlain, ArePlainBefore, small, words_of_head}
-use Rattle.niss_text.specs.Lines.{IsLine, IsTold, IsUnbroken, IsEnd, IsPlainLine, MayBeHead, TellsPlain, end_of, end_size, has_moves}
+use Rattle.niss_text.specs.Doubts.{is_capital, is_small}
+use Rattle.niss_text.specs.Kept.{HasNoLetters, AreInNotation, ArePlain, ArePlainBefore, small, words_of_any_head}
+use Rattle.niss_text.specs.Lines.{IsLine, IsToldBy, IsUnbroken, IsEnd, IsPlainLine, MayBeHead, TellsPlain, end_of, end_size, has_moves, Takes}
 use Rattle.niss_text.proofs.CommentLemmas.{first_capital}
 use Rattle.niss_text.proofs.PassedLemmas.{passes_order, same_line}
 unfoldable use Rattle.niss_text.specs.Kept.{spells}
-unfoldable use Rattle.niss_text.specs.Lines.{Passes, Takes}
+unfoldable use Rattle.niss_text.specs.Lines.{Passes, TakesBy}
+
+small_capital : (b : ℕ) → is_capital b ≡ true → is_small (small b) ≡ true
+small_capital b is = grind (arith, nat_tests)
+
+never : (first b : ℕ) → is_small first ≡ false → is_capital b ≡ true → first ≡ small b → ⊥
+never first b none is same = false≢true (sym none ∙ ap is_small same ∙ small_capital b is)
 
 -- the words of a head begin with no capital letter of a move
-word_never : (b : ℕ) (bytes : List ℕ) → is_capital b ≡ true → Contains words_of_head (small b ∷ bytes) → ⊥
-word_never b bytes capital (zero, lt, same) = never b capital (ap (λ w. get_or w 0 0) same)
-  where
-    never : (a : ℕ) → is_capital a ≡ true → 115 ≡ small a → ⊥
-    never a is e = grind (arith, nat_tests)
-word_never b bytes capital (suc zero, lt, same) = never b capital (ap (λ w. get_or w 0 0) same)
-  where
-    never : (a : ℕ) → is_capital a ≡ true → 97 ≡ small a → ⊥
-    never a is e = grind (arith, nat_tests)
-word_never b bytes capital (suc (suc zero), lt, same) = never b capital (ap (λ w. get_or w 0 0) same)
-  where
-    never : (a : ℕ) → is_capital a ≡ true → 101 ≡ small a → ⊥
-    never a is e = grind (arith, nat_tests)
-word_never b bytes capital (suc (suc (suc zero)), lt, same) = never b capital (ap (λ w. get_or w 0 0) same)
-  where
-    never : (a : ℕ) → is_capital a ≡ true → 111 ≡ small a → ⊥
-    never a is e = grind (arith, nat_tests)
-word_never b bytes capital (suc (suc (suc (suc zero))), lt, same) = never b capital (ap (λ w. get_or w 0 0) same)
-  where
-    never : (a : ℕ) → is_capital a ≡ true → 101 ≡ small a → ⊥
-    never a is e = grind (arith, nat_tests)
-word_never b bytes capital (suc (suc (suc (suc (suc k)))), lt, same) = absurd (omega (arith, lt))
+word_never : (b : ℕ) (bytes : List ℕ) → is_capital b ≡ true → Contains words_of_any_head (small b ∷ bytes) → ⊥
+word_never b bytes is (zero, lt, same) = never 99 b refl is (ap (λ w. get_or w 0 0) same)
+word_never b bytes is (suc zero, lt, same) = never 115 b refl is (ap (λ w. get_or w 0 0) same)
+word_never b bytes is (suc (suc zero), lt, same) = never 115 b refl is (ap (λ w. get_or w 0 0) same)
+word_never b bytes is (suc (suc (suc zero)), lt, same) = never 97 b refl is (ap (λ w. get_or w 0 0) same)
+word_never b bytes is (suc (suc (suc (suc zero))), lt, same) = never 101 b refl is (ap (λ w. get_or w 0 0) same)
+word_never b bytes is (suc (suc (suc (suc (suc zero)))), lt, same) = never 111 b refl is (ap (λ w. get_or w 0 0) same)
+word_never b bytes is (suc (suc (suc (suc (suc (suc zero))))), lt, same) = never 101 b refl is (ap (λ w. get_or w 0 0) same)
+word_never b bytes is (suc (suc (suc (suc (suc (suc (suc k)))))), lt, same) = absurd (omega (arith, lt))
 
 letter_never : (b : ℕ) (bytes : List ℕ) → is_capital b ≡ true → HasNoLetters (b ∷ bytes) → ⊥
 unfolding spells
@@ -46,18 +39,18 @@ letter_never b bytes capital none = never b capital (search (rules, none))
     never : (a : ℕ) → is_capital a ≡ true → spells a ≡ false → ⊥
     never a is not = grind (arith, nat_tests)
 
-parts_never : (parts : List (List ℕ)) (bytes : List ℕ) → concat parts ≡ bytes → All (λ part. HasNoLetters part ⊎ Contains words_of_head (map small part)) parts →
+parts_never : (parts : List (List ℕ)) (bytes : List ℕ) → concat parts ≡ bytes → All (λ part. HasNoLetters part ⊎ Contains words_of_any_head (map small part)) parts →
     is_capital (get_or bytes 0 0) ≡ true → ⊥
 parts_never [] bytes whole each capital = false≢true (ap (λ v. is_capital (get_or v 0 0)) whole ∙ capital)
 parts_never ([] ∷ ps) bytes whole each capital =
-    parts_never ps bytes whole (All-tail (λ part. HasNoLetters part ⊎ Contains words_of_head (map small part)) [] ps each) capital
+    parts_never ps bytes whole (All-tail (λ part. HasNoLetters part ⊎ Contains words_of_any_head (map small part)) [] ps each) capital
 parts_never ((b ∷ bs) ∷ ps) bytes whole each capital =
-    by_part (All-head (λ part. HasNoLetters part ⊎ Contains words_of_head (map small part)) (b ∷ bs) ps each)
+    by_part (All-head (λ part. HasNoLetters part ⊎ Contains words_of_any_head (map small part)) (b ∷ bs) ps each)
   where
     first : is_capital b ≡ true
     first = ap (λ v. is_capital (get_or v 0 0)) whole ∙ capital
 
-    by_part : HasNoLetters (b ∷ bs) ⊎ Contains words_of_head (map small (b ∷ bs)) → ⊥
+    by_part : HasNoLetters (b ∷ bs) ⊎ Contains words_of_any_head (map small (b ∷ bs)) → ⊥
     by_part (inl none) = letter_never b bs first none
     by_part (inr word) = word_never b (map small bs) first word
 
@@ -128,7 +121,7 @@ at_begin text begin end from size is whole low less = by_place (cases_lt from be
         let there : from + (before.0 - from) ≡ before.0 = omega (arith, later, before.1) in
         absurd (false≢true (sym (whole (before.0 - from) (omega (arith, later, less, before.1))) ∙ ap (λ n. ends_line (get_or text n 0)) there ∙ before.2))
 
-head_never : (text : List ℕ) (begin end from to : ℕ) → IsPlainLine text begin end → MayBeHead text from to → from ≤ begin → begin < to → ⊥
+head_never : (text : List ℕ) (begin end from to : ℕ) → IsPlainLine text begin end → MayBeHead words_of_any_head text from to → from ≤ begin → begin < to → ⊥
 head_never text begin end from to is head low less =
     let same : from ≡ begin = at_begin text begin end from (to - from) is head.unbroken low (omega (arith, low, less)) in
     let first = (capital_at text begin end (capital_first text begin end is.plain)).1 in
@@ -150,7 +143,8 @@ same_end text begin end size line is same ends whole ended within =
     omega (arith, here, size_is, order)
 
 -- a line of plain moves has moves, as it is told
-told_moves : (text : List ℕ) (begin end : ℕ) (line : TextLine) → IsPlainLine text begin end → IsTold text line → line.begin ≡ begin → line.end ≡ end → has_moves line ≡ false → ⊥
+told_moves : (text : List ℕ) (begin end : ℕ) (line : TextLine) → IsPlainLine text begin end → IsToldBy words_of_any_head text line → line.begin ≡ begin →
+    line.end ≡ end → has_moves line ≡ false → ⊥
 told_moves text begin end line is told same ends none = by_plain is.plain
   where
     bytes : slice_range text begin end ≡ slice_range text line.begin line.end
@@ -171,7 +165,7 @@ no_end text begin end at is low less =
     ends_never (get_or text begin 0) (capital_at text begin end (capital_first text begin end is.plain)).1
     (ap (λ n. ends_line (get_or text n 0)) (sym there) ∙ end_bytes text at (begin - at) (omega (arith, low, less)))
 
-passes_never : (text : List ℕ) (begin end from : ℕ) (lines : List TextLine) (to : ℕ) → IsPlainLine text begin end → Passes text from lines to → to ≤ length text →
+passes_never : (text : List ℕ) (begin end from : ℕ) (lines : List TextLine) (to : ℕ) → IsPlainLine text begin end → Passes words_of_any_head text from lines to → to ≤ length text →
     from ≤ begin → begin < to → ⊥
 unfolding Passes
 passes_never text begin end from [] to is far within low less = head_never text begin end from to is far low less
@@ -197,7 +191,7 @@ abbrev pub FindsLine : List TextLine → (begin end : ℕ) → Type 0
 FindsLine lines begin end = (k : ℕ) × (k < length lines) × ((none : TextLine) → ((get_or lines k none).begin ≡ begin) × ((get_or lines k none).end ≡ end))
 
 takes_low : (text : List ℕ) (from : ℕ) (lines : List TextLine) (to : ℕ) → Takes text from lines to → from ≤ to
-unfolding Takes
+unfolding TakesBy
 takes_low text from [] to far = passes_order text from far.0 to far.1
 takes_low text from (l ∷ ls) to far =
     let is : IsLine l.begin l = far.1.0 in
@@ -215,7 +209,7 @@ takes_low text from (l ∷ ls) to far =
 
 takes_finds : (text : List ℕ) (begin end from : ℕ) (lines : List TextLine) (to : ℕ) → IsPlainLine text begin end → Takes text from lines to → to ≤ length text →
     from ≤ begin → begin < to → FindsLine lines begin end
-unfolding Takes
+unfolding TakesBy
 takes_finds text begin end from [] to is far within low less = absurd (passes_never text begin end from far.0 to is far.1 within low less)
 takes_finds text begin end from (l ∷ ls) to is far within low less =
     by_place (takes_finds text begin end (l.end + end_size text l.end) ls to is far.1.1.1.4 within) (cases_lt begin l.begin) (cases_lt begin l.end)

@@ -5,20 +5,22 @@ use Rattle.std.proofs.lemmas.List.{drop-drop, drop-take, get_or_default, get_or-
 use Rattle.std.proofs.Math.Seq.{take-append_seam}
 use Rattle.std.proofs.lemmas.Bool.Decides.{nat_tests}
 use Rattle.niss_text.specs.Signs.{HasNoMoves}
-use Rattle.niss_text.specs.Doubts.{IsDoubted, is_capital}
-use Rattle.niss_text.specs.Kept.{AreInNotation, ArePlainBefore, BeginNoMoves, HasOnlyWords, IsTitleEnd, words_of_head, begins_with_turn}
+use Rattle.niss_text.specs.Doubts.{HasNone, IsAsWritten, IsDoubted, is_capital}
+use Rattle.niss_text.specs.Kept.{AreInNotation, ArePlainBefore, BeginNoMoves, HasOnlyWords, IsTitleEnd, words_of_any_head, begins_with_turn}
 use Rattle.niss_text.specs.Said.{HasNoSlashes, IsSided}
-use Rattle.niss_text.specs.Known.{AreOrHeaded, IsHeaded, IsOrHeaded}
-use Rattle.niss_text.specs.Lines.{IsLine, IsTold, IsEnd, end_size}
+use Rattle.niss_text.specs.Known.{AreOrHeaded, IsHeaded, IsOrHeaded, MayBeHeaded}
+use Rattle.niss_text.specs.Lines.{Covers, IsLine, IsTold, IsToldBy, IsEnd, end_size}
+use Rattle.niss_text.specs.declared.sights.Sight.{Sight}
+use Rattle.niss_text.specs.declared.sights.Sight.TheVariants.{Small, Repeated, Marked, Gap, Joint, Pair}
 use Rattle.niss_text.specs.declared.text_line.TextLine.{TextLine}
-use Rattle.niss_text.proofs.KeptLemmas.{title_none}
+use Rattle.niss_text.proofs.KeptLemmas.{any_head, title_none}
 use Rattle.niss_text.proofs.LayerLemmas.{none_at_end}
-unfoldable use Rattle.niss_text.specs.Lines.{Covers}
+unfoldable use Rattle.niss_text.specs.Lines.{CoversBy}
 unfoldable use Rattle.niss_text.specs.Kept.{begins_with_move, is_over}
 
-pub headed_line : (line it : TextLine) (head_end : ℕ) (alone : Bool) → IsLine line.begin line → IsHeaded line head_end alone it →
+pub headed_line : (line it : TextLine) (head_end kind : ℕ) → IsLine line.begin line → IsHeaded line head_end kind it → MayBeHeaded kind →
     line.begin < head_end → head_end ≤ line.end → IsLine line.begin it
-headed_line line it head_end alone is headed some within = record {
+headed_line line it head_end kind is headed may some within = record {
   begins = headed.placed.0;
   head = omega (arith, headed.placed.0, headed.headed.1, some);
   label = omega (arith, headed.headed.1, headed.words.0);
@@ -27,13 +29,14 @@ headed_line line it head_end alone is headed some within = record {
   moves = omega (arith, headed.none.0, headed.none.1);
   comment = omega (arith, headed.none.1, headed.placed.1);
   inverse = inl headed.flags.2;
-  kind = by_kind alone headed.kind;
+  kind = at_most may;
   flags = (omega (arith, headed.flags.0), omega (arith, headed.headed.0), omega (arith, headed.flags.1), omega (arith, headed.flags.2));
 }
   where
-    by_kind : (b : Bool) → it.kind ≡ (if b then 0 else 4) → it.kind ≤ 4
-    by_kind true same = omega (arith, same)
-    by_kind false same = omega (arith, same)
+    at_most : MayBeHeaded kind → it.kind ≤ 4
+    at_most (inl is) = omega (arith, headed.kind, is)
+    at_most (inr (inl is)) = omega (arith, headed.kind, is)
+    at_most (inr (inr is)) = omega (arith, headed.kind, is)
 
 abbrev pub no_line : TextLine
 no_line = record {
@@ -56,11 +59,11 @@ no_line = record {
 }
 
 -- the lines of a text, with another one in the place of one
-pub covers_set : (text : List ℕ) (from : ℕ) (lines : List TextLine) (to at : ℕ) (none it : TextLine) → Covers text from lines to →
+pub covers_set : (text : List ℕ) (from : ℕ) (lines : List TextLine) (to at : ℕ) (none it : TextLine) → CoversBy words_of_any_head text from lines to →
     ((IsLine (get_or lines at none).begin (get_or lines at none) → IsLine (get_or lines at none).begin it)) →
-    (IsLine (get_or lines at none).begin (get_or lines at none) → IsTold text (get_or lines at none) → IsTold text it) →
-    it.end ≡ (get_or lines at none).end → Covers text from (set lines at it) to
-unfolding Covers
+    (IsLine (get_or lines at none).begin (get_or lines at none) → IsToldBy words_of_any_head text (get_or lines at none) → IsToldBy words_of_any_head text it) →
+    it.end ≡ (get_or lines at none).end → CoversBy words_of_any_head text from (set lines at it) to
+unfolding CoversBy
 covers_set text from [] to at none it far is told end = far
 covers_set text from (l ∷ ls) to zero none it far is told end =
     let here : IsLine l.begin l = subst (λ n. IsLine n l) (sym far.0.begins) far.0 in (
@@ -72,30 +75,31 @@ covers_set text from (l ∷ ls) to zero none it far is told end =
           end ∙ far.1.1.1,
           far.1.1.2,
           subst (λ n. IsEnd text n) (sym end) far.1.1.3,
-          subst (λ n. Covers text (n + end_size text n) ls to) (sym end) far.1.1.4,
+          subst (λ n. CoversBy words_of_any_head text (n + end_size text n) ls to) (sym end) far.1.1.4,
         ),
       ),
     )
 covers_set text from (l ∷ ls) to (suc at) none it far is told end =
     (far.0, (far.1.0, (far.1.1.0, far.1.1.1, far.1.1.2, far.1.1.3, covers_set text (l.end + end_size text l.end) ls to at none it far.1.1.4 is told end)))
 
-no_kind : (alone : Bool) (kind : ℕ) → kind ≡ (if alone then 0 else 4) → (kind ≡ 1) ⊎ ((kind ≡ 2) ⊎ (kind ≡ 3)) → ⊥
-no_kind true kind same (inl one) = omega (arith, same, one)
-no_kind true kind same (inr (inl two)) = omega (arith, same, two)
-no_kind true kind same (inr (inr three)) = omega (arith, same, three)
-no_kind false kind same (inl one) = omega (arith, same, one)
-no_kind false kind same (inr (inl two)) = omega (arith, same, two)
-no_kind false kind same (inr (inr three)) = omega (arith, same, three)
+no_step : (kind : ℕ) → MayBeHeaded kind → kind ≡ 3 → ⊥
+no_step kind (inl is) three = omega (arith, is, three)
+no_step kind (inr (inl is)) three = omega (arith, is, three)
+no_step kind (inr (inr is)) three = omega (arith, is, three)
 
-is_alone : (alone : Bool) (kind : ℕ) → kind ≡ (if alone then 0 else 4) → kind ≡ 0 → alone ≡ true
-is_alone true kind same none = refl
-is_alone false kind same none = absurd (omega (arith, same, none))
+-- nothing is seen in a part of a text without bytes
+unseen : (text : List ℕ) (sight : Sight) (from to : ℕ) → to ≤ from → HasNone text sight from to
+unseen text sight from to none k first last = absurd (omega (arith, none, first, last))
 
-headed_doubted : (text : List ℕ) (line it : TextLine) (head_end : ℕ) (alone : Bool) → IsHeaded line head_end alone it → it.begin ≤ it.end → IsDoubted text it
-headed_doubted text line it head_end alone headed order =
+headed_doubted : (text : List ℕ) (line it : TextLine) (head_end kind : ℕ) → IsHeaded line head_end kind it → MayBeHeaded kind → it.begin ≤ it.end → IsDoubted text it
+headed_doubted text line it head_end kind headed may order =
     let none : it.doubt ≡ 0 = headed.undoubted.0 in
-    let two : it.kind ≡ 2 → ⊥ = λ is. no_kind alone it.kind headed.kind (inr (inl is)) in
-    let three : it.kind ≡ 3 → ⊥ = λ is. no_kind alone it.kind headed.kind (inr (inr is)) in
+    let moves : it.comment ≤ it.moves = omega (arith, headed.none.0, headed.none.1) in
+    let comment : it.end ≤ it.comment = omega (arith, headed.none.1, headed.placed.1) in
+    let written : IsAsWritten text it.moves it.comment = record {
+      apart = λ j first last. absurd (omega (arith, moves, first, last));
+      unprimed = λ _ k first last. absurd (omega (arith, moves, first, last));
+    } in
     record {
       place = (omega (arith, headed.undoubted.1, headed.placed.1, order), omega (arith, headed.undoubted.1, headed.placed.1));
       number = inl (omega (arith, none));
@@ -107,28 +111,24 @@ headed_doubted text line it head_end alone headed order =
       small = λ is. absurd (omega (arith, none, is));
       no_capital = λ is. absurd (omega (arith, none, is));
       letters = λ is. absurd (omega (arith, none, is));
-      scramble = λ _ is. absurd (two is);
-      solution = λ _ is. absurd (three is);
-      no_small = λ _ is. absurd (two is);
-      capital = λ _ is. absurd (three is);
-      once = λ _ is. absurd (two is);
-      once_solved = λ _ is. absurd (three is);
-      commas = λ _ is. absurd (by_moves two three is);
+      scramble = λ _ _. written;
+      solution = λ _ _ _. written;
+      no_small = λ _ _. unseen text Small it.moves it.comment moves;
+      capital = λ _ _ _ _. unseen text Small it.moves it.comment moves;
+      once = λ _ _. unseen text Repeated it.moves it.comment moves;
+      once_solved = λ _ _ _. unseen text Repeated it.moves it.comment moves;
+      commas = λ _ _. inr (unseen text Gap it.moves it.comment moves);
       of_scramble = λ is. absurd (omega (arith, none, is));
-      called = λ is. absurd (three is);
-      unmarked = λ _ is. absurd (three is);
-      unjoined = λ _ is. absurd (three is);
-      unpaired = λ _ is. absurd (three is);
+      called = λ is. absurd (no_step kind may (sym headed.kind ∙ is));
+      unmarked = λ _ _ _. unseen text Marked (it.moves + 1) it.comment (omega (arith, moves));
+      unjoined = λ _ _ _. unseen text Joint (it.moves + 1) it.comment (omega (arith, moves));
+      unpaired = λ _ _ _. unseen text Pair it.comment it.end comment;
     }
-  where
-    by_moves : (it.kind ≡ 2 → ⊥) → (it.kind ≡ 3 → ⊥) → (it.kind ≡ 2) ⊎ ((it.kind ≡ 3) × (it.is_solution ≡ 1)) → ⊥
-    by_moves two three (inl is) = two is
-    by_moves two three (inr is) = three is.0
 
-headed_sided : (text : List ℕ) (line it : TextLine) (head_end : ℕ) (alone : Bool) → IsHeaded line head_end alone it → IsSided text it
-headed_sided text line it head_end alone headed = record {
+headed_sided : (text : List ℕ) (line it : TextLine) (head_end kind : ℕ) → IsHeaded line head_end kind it → MayBeHeaded kind → IsSided text it
+headed_sided text line it head_end kind headed may = record {
   only = λ is. absurd (omega (arith, headed.flags.2, is));
-  all = λ is. absurd (no_kind alone it.kind headed.kind (inr (inr is.kind)));
+  all = λ is. absurd (no_step kind may (sym headed.kind ∙ is.kind));
   free = λ _ is. absurd (by_doubt is);
 }
   where
@@ -141,23 +141,24 @@ no_turn : (rest : List ℕ) → is_capital (get_or rest 0 0) ≡ false → begin
 unfolding begins_with_move
 no_turn rest none = ap (λ b. b && (is_over (drop 1 rest) || (((get_or rest 1 0 == 50) || (get_or rest 1 0 == 39)) && is_over (drop 2 rest)))) none
 
-pub headed_told : (text : List ℕ) (line it : TextLine) (head_end : ℕ) (alone : Bool) → IsLine line.begin line → (AreInNotation (slice_range text line.begin line.end) → ⊥) →
-    ((count : ℕ) → ArePlainBefore (slice_range text line.begin line.end) count → ⊥) → IsHeaded line head_end alone it → line.begin < head_end → head_end ≤ line.end → HasOnlyWords words_of_head (slice_range text line.begin head_end) →
-    is_capital (get_or (slice_range text head_end line.end) 0 0) ≡ false → (alone ≡ true → HasNoMoves (slice_range text head_end line.end)) → IsTold text it
-headed_told text line it head_end alone is noted commented headed some within words plain empty = record {
-  doubted = headed_doubted text line it head_end alone headed (omega (arith, headed.placed.0, headed.placed.1, some, within));
-  sided = headed_sided text line it head_end alone headed;
+pub headed_told : (text : List ℕ) (line it : TextLine) (head_end kind : ℕ) → IsLine line.begin line → (AreInNotation (slice_range text line.begin line.end) → ⊥) →
+    ((count : ℕ) → ArePlainBefore (slice_range text line.begin line.end) count → ⊥) → IsHeaded line head_end kind it → MayBeHeaded kind → line.begin < head_end → head_end ≤ line.end →
+    HasOnlyWords words_of_any_head (slice_range text line.begin head_end) → is_capital (get_or (slice_range text head_end line.end) 0 0) ≡ false →
+    (kind ≡ 0 → HasNoMoves (slice_range text head_end line.end)) → IsToldBy words_of_any_head text it
+headed_told text line it head_end kind is noted commented headed may some within words plain empty = record {
+  doubted = headed_doubted text line it head_end kind headed may (omega (arith, headed.placed.0, headed.placed.1, some, within));
+  sided = headed_sided text line it head_end kind headed may;
   headed = headed.headed.0 ∙ sym (ap (λ (b : Bool). if b then 1 else 0) later);
   says = λ says. absurd (omega (arith, headed.flags.1, says));
   kept = record {
-    head = subst (λ n. HasOnlyWords words_of_head (slice_range text n it.head_end)) (sym headed.placed.0)
-        (subst (λ n. HasOnlyWords words_of_head (slice_range text line.begin n)) (sym headed.headed.1) words);
+    head = subst (λ n. HasOnlyWords words_of_any_head (slice_range text n it.head_end)) (sym headed.placed.0)
+        (subst (λ n. HasOnlyWords words_of_any_head (slice_range text line.begin n)) (sym headed.headed.1) words);
     margin = subst (λ n. BeginNoMoves (slice_range text it.head_end n)) (headed.headed.1 ∙ sym headed.words.0) (nothing text it.head_end);
     title = subst (λ n. IsTitleEnd (slice_range text it.label_end n)) (headed.words.1 ∙ sym headed.none.0) (title_none text it.label_end);
   };
   labelled = λ begins. absurd (false≢true (sym (no_turn (slice_range text it.label_begin it.end) rest) ∙ begins));
   blank = λ none. subst (λ n. HasNoMoves (slice_range text n it.end)) (sym headed.headed.1)
-      (subst (λ n. HasNoMoves (slice_range text head_end n)) (sym headed.placed.1) (empty (is_alone alone it.kind headed.kind none)));
+      (subst (λ n. HasNoMoves (slice_range text head_end n)) (sym headed.placed.1) (empty (sym headed.kind ∙ none)));
   comment = subst (λ n. begins_with_turn (slice_range text it.comment n) ≡ false) (headed.none.1 ∙ sym headed.placed.1) (no_turn_left text it.comment);
   uncommented = subst (λ n. HasNoSlashes (slice_range text it.moves n)) (headed.none.0 ∙ sym headed.none.1) (no_slashes text it.moves);
   plain = λ notation. absurd (noted (there notation));
@@ -192,10 +193,10 @@ headed_told text line it head_end alone is noted commented headed some within wo
 
 -- a line of a text, and what is in front of it and after that
 pub begin_of_line : (text whole : List ℕ) (begin end head : ℕ) → whole ≡ slice_range text begin end → begin + head ≤ end →
-    HasOnlyWords words_of_head (take head whole) → HasOnlyWords words_of_head (slice_range text begin (begin + head))
+    HasOnlyWords words_of_any_head (take head whole) → HasOnlyWords words_of_any_head (slice_range text begin (begin + head))
 begin_of_line text whole begin end head same fits words =
     let size : begin + head - begin ≡ head = omega arith in
-    subst (λ v. HasOnlyWords words_of_head v)
+    subst (λ v. HasOnlyWords words_of_any_head v)
     (ap (λ v. take head v) same ∙ take-take head (end - begin) (drop begin text) (omega (arith, fits))
     ∙ ap (λ n. take n (drop begin text)) (sym size)) words
 
@@ -213,13 +214,41 @@ byte_of_line text whole begin end head same fits none =
     subst (λ v. is_capital (get_or v 0 0) ≡ false) (rest_behind text whole begin end head same fits)
     (subst (λ b. is_capital b ≡ false) (sym (get_or-drop head whole 0 0 ∙ ap (λ n. get_or whole n 0) there)) none)
 
+-- what is told of a line with a head is told of one with any
+told_any : (text : List ℕ) (line : TextLine) → IsTold text line → IsToldBy words_of_any_head text line
+told_any text line told = record {
+  doubted = told.doubted;
+  sided = told.sided;
+  headed = told.headed;
+  says = told.says;
+  kept = record {
+    head = any_head (slice_range text line.begin line.head_end) told.kept.head;
+    margin = told.kept.margin;
+    title = told.kept.title;
+  };
+  labelled = told.labelled;
+  blank = told.blank;
+  comment = told.comment;
+  uncommented = told.uncommented;
+  plain = told.plain;
+  commented = told.commented;
+}
+
+-- so are the lines of a text
+covers_any : (text : List ℕ) (from : ℕ) (lines : List TextLine) (to : ℕ) → Covers text from lines to → CoversBy words_of_any_head text from lines to
+unfolding CoversBy
+covers_any text from [] to far = far
+covers_any text from (l ∷ ls) to far =
+    (far.0, (told_any text l far.1.0, (far.1.1.0, far.1.1.1, far.1.1.2, far.1.1.3, covers_any text (l.end + end_size text l.end) ls to far.1.1.4)))
+
 -- all lines of a text whose first ones are others
 pub all_headed : (text : List ℕ) (lines new rest : List TextLine) (n : ℕ) → n ≤ length lines → length new ≡ length (take n lines) →
-    (Covers text 0 (take n lines) (length text) → Covers text 0 new (length text)) → Covers text 0 (take n lines) (length text) →
-    Covers text 0 (take n (new ++ rest)) (length text)
+    (CoversBy words_of_any_head text 0 (take n lines) (length text) → CoversBy words_of_any_head text 0 new (length text)) → Covers text 0 (take n lines) (length text) →
+    CoversBy words_of_any_head text 0 (take n (new ++ rest)) (length text)
 all_headed text lines new rest n room same further far =
     let long : length new ≡ n = same ∙ length-take-le n lines room in
-    subst (λ v. Covers text 0 v (length text)) (sym (ap (λ m. take m (new ++ rest)) (sym long) ∙ take-append_seam new rest)) (further far)
+    subst (λ v. CoversBy words_of_any_head text 0 v (length text)) (sym (ap (λ m. take m (new ++ rest)) (sym long) ∙ take-append_seam new rest))
+    (further (covers_any text 0 (take n lines) (length text) far))
 
 -- lines of which some were told a head, and one more
 pub headed_next : (text : List ℕ) (count counted : ℕ) (lines now : List TextLine) (at : ℕ) (none it : TextLine) → at < length now → counted ≡ count →

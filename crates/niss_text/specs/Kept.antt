@@ -32,6 +32,10 @@ pub record HasOnlyWords (words : List (List ℕ)) (bytes : List ℕ) : Type 0 wh
 abbrev pub words_of_head : List (List ℕ)
 words_of_head = codes "scramble" ∷ codes "attempt" ∷ codes "extra" ∷ codes "of" ∷ codes "e" ∷ []
 
+-- those of a head before a solution of a scramble that is known, too
+abbrev pub words_of_any_head : List (List ℕ)
+words_of_any_head = codes "cube" ∷ codes "solve" ∷ words_of_head
+
 abbrev pub words_of_count : List (List ℕ)
 words_of_count = codes " moves" ∷ codes " move" ∷ []
 
@@ -49,11 +53,11 @@ pub record IsTitleEnd (bytes : List ℕ) : Type 0 where
   pub empty : HasNoMoves rest
   pub signs : AreSigns ends_title rest
 
--- No move is lost before the moves of a line, which has its parts there: a head has no letters but those of its words,
+-- No move is lost before the moves of a line, which has its parts there: a head has no letters but those of some words,
 -- no byte that moves begin with stands between it and the label, and none between that and the moves but in a number of
 -- moves.
-pub record LosesNone (text : List ℕ) (begin head_end label_begin label_end moves : ℕ) : Type 0 where
-  pub head : HasOnlyWords words_of_head (slice_range text begin head_end)
+pub record LosesNone (words : List (List ℕ)) (text : List ℕ) (begin head_end label_begin label_end moves : ℕ) : Type 0 where
+  pub head : HasOnlyWords words (slice_range text begin head_end)
   pub margin : BeginNoMoves (slice_range text head_end label_begin)
   pub title : IsTitleEnd (slice_range text label_end moves)
 

@@ -3,7 +3,7 @@ use Rattle.std.specs.Prelude.{◌≡◌, ℕ, zero, suc, ◌+◌, ◌-◌, ◌*�
 use Rattle.std.specs.List.{All, list_any}
 use Rattle.niss_text.specs.Signs.{is_digit}
 use Rattle.niss_text.specs.Doubts.{is_letter}
-use Rattle.niss_text.specs.Kept.{HasOnlyWords, words_of_head}
+use Rattle.niss_text.specs.Kept.{HasOnlyWords, words_of_any_head}
 use Rattle.niss_text.specs.Lines.{Counts, HasNoneBetween, Takes}
 use Rattle.niss_text.specs.declared.known.KnownPart.{KnownPart}
 use Rattle.niss_text.specs.declared.parts.Part.{Part}
@@ -95,7 +95,7 @@ number_of_line text line = if line.is_headed == 0 then None else head_number (sl
 pub record IsName (text : List ℕ) (begin end : ℕ) : Type 0 where
   pub order : begin ≤ end
   pub within : end ≤ length text
-  pub words : HasOnlyWords words_of_head (slice_range text begin end)
+  pub words : HasOnlyWords words_of_any_head (slice_range text begin end)
 
 -- what stands before the labels of lines are names
 abbrev pub HaveHeads : List ℕ → List TextLine → Type 0
@@ -180,10 +180,14 @@ pub record AreOf (text : List ℕ) (count : ℕ) (parts : List KnownPart) : Type
   pub all : are_in_order text count parts ≡ false → (k scramble : ℕ) (none : KnownPart) → k < length parts → scramble < count →
       SaysAlone text parts k scramble → (get_or parts k none).scramble ≡ scramble
 
--- A line is another one whose head ends there, of which nothing else is told: words follow, if it doesn't stand alone.
-pub record IsHeaded (line : TextLine) (head_end : ℕ) (is_alone : Bool) (it : TextLine) : Type 0 where
+-- what a line with a head may be told to be: blank, or with moves, as a line of a scramble is, or with words
+abbrev pub MayBeHeaded : ℕ → Type 0
+MayBeHeaded kind = (kind ≡ 0) ⊎ ((kind ≡ 2) ⊎ (kind ≡ 4))
+
+-- A line is another one whose head ends there, of which nothing else is told but its kind.
+pub record IsHeaded (line : TextLine) (head_end number : ℕ) (it : TextLine) : Type 0 where
   pub headed : (it.is_headed ≡ 1) × (it.head_end ≡ head_end)
-  pub kind : it.kind ≡ (if is_alone then 0 else 4)
+  pub kind : it.kind ≡ number
   pub placed : (it.begin ≡ line.begin) × (it.end ≡ line.end)
   pub words : (it.label_begin ≡ head_end) × (it.label_end ≡ line.end)
   pub none : (it.moves ≡ line.end) × (it.comment ≡ line.end)

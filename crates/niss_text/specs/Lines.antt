@@ -2,7 +2,7 @@
 use Rattle.std.specs.Prelude.{◌≡◌, ℕ, zero, suc, ◌==◌, ◌+◌, ◌-◌, ◌<◌, ◌≤◌, ◌⊎◌, ◌||◌, ◌&&◌, Bool, true, false, if◌then◌else◌, List, [], ◌∷◌, length, get_or, slice_index, slice_range, nat_lt}
 use Rattle.niss_text.specs.Signs.{ends_line, HasNoMoves}
 use Rattle.niss_text.specs.Doubts.{IsDoubted}
-use Rattle.niss_text.specs.Kept.{HasOnlyWords, LosesNone, AreInNotation, ArePlain, ArePlainBefore, begins_with_turn, words_of_head}
+use Rattle.niss_text.specs.Kept.{HasOnlyWords, LosesNone, AreInNotation, ArePlain, ArePlainBefore, begins_with_turn, words_of_any_head, words_of_head}
 use Rattle.niss_text.specs.Said.{HasNoSlashes, IsLabelled, IsSided, SaysSolution, label_in}
 use Rattle.niss_text.specs.declared.text_line.TextLine.{TextLine}
 
@@ -30,18 +30,18 @@ pub record IsPlacedAs (line other : TextLine) : Type 0 where
   pub label : (other.label_begin ≡ line.label_begin) × (other.label_end ≡ line.label_end)
   pub moves : (other.moves ≡ line.moves) × (other.comment ≡ line.comment)
 
--- What is told of a line of a text: what makes one doubt it, whether it is on the inverse, and whether it has a head.
--- Its label has a word for a solution, and none for a step before that, if it is told to say that one follows. It loses no move before its moves, which
--- are no label where they begin it; nothing that moves are made of stands in a blank one after its head; no comment
--- begins among the moves; what is said after them doesn't begin with a move by itself; and a line that is moves in the
--- WCA's notation is of a scramble or a step, all of it, or all up to the slashes if a comment follows moves that begin
--- with the turn of a face.
-pub record IsTold (text : List ℕ) (line : TextLine) : Type 0 where
+-- What is told of a line of a text: what makes one doubt it, whether it is on the inverse, and whether it has a head,
+-- which has no letters but those of some words. Its label has a word for a solution, and none for a step before that,
+-- if it is told to say that one follows. It loses no move before its moves, which are no label where they begin it;
+-- nothing that moves are made of stands in a blank one after its head; no comment begins among the moves; what is said
+-- after them doesn't begin with a move by itself; and a line that is moves in the WCA's notation is of a scramble or a
+-- step, all of it, or all up to the slashes if a comment follows moves that begin with the turn of a face.
+pub record IsToldBy (words : List (List ℕ)) (text : List ℕ) (line : TextLine) : Type 0 where
   pub doubted : IsDoubted text line
   pub sided : IsSided text line
   pub headed : line.is_headed ≡ (if nat_lt line.begin line.head_end then 1 else 0)
   pub says : line.says_solution ≡ 1 → SaysSolution (label_in text line)
-  pub kept : LosesNone text line.begin line.head_end line.label_begin line.label_end line.moves
+  pub kept : LosesNone words text line.begin line.head_end line.label_begin line.label_end line.moves
   pub labelled : IsLabelled text (slice_range text line.label_begin line.end) line.label_begin line.moves
   pub blank : line.kind ≡ 0 → HasNoMoves (slice_range text line.head_end line.end)
   pub comment : begins_with_turn (slice_range text line.comment line.end) ≡ false
@@ -50,6 +50,10 @@ pub record IsTold (text : List ℕ) (line : TextLine) : Type 0 where
       ((line.kind ≡ 2) ⊎ (line.kind ≡ 3)) × ((line.moves ≡ line.begin) × (line.comment ≡ line.end))
   pub commented : (count : ℕ) → ArePlainBefore (slice_range text line.begin line.end) count →
       ((line.kind ≡ 2) ⊎ (line.kind ≡ 3)) × ((line.moves ≡ line.begin) × (line.comment ≡ line.begin + count))
+
+-- what is told of a line of any text: only with known scrambles a head may have other words
+abbrev pub IsTold : List ℕ → TextLine → Type 0
+IsTold text line = IsToldBy words_of_head text line
 
 -- how many bytes of two end a line: a return and a line feed both, either of them alone, or none
 abbrev pub end_of : ℕ → ℕ → ℕ
@@ -77,42 +81,54 @@ Counts text from (suc count) to =
 abbrev pub Remain : (text : List ℕ) (all before at end : ℕ) → Type 0
 Remain text all before at end = (rest : ℕ) × (before + rest ≡ all) × Counts text at rest end
 
--- The lines of a text from one place to another: each of bytes that don't end it, and up to what does.
-unfoldable pub Covers : List ℕ → ℕ → List TextLine → ℕ → Type 0
-Covers text from [] to = from ≡ to
-Covers text from (line ∷ lines) to =
-    IsLine from line × (IsTold text line × ((size : ℕ) × (line.end ≡ from + size) × IsUnbroken text from size
-    × IsEnd text line.end × Covers text (line.end + end_size text line.end) lines to))
+-- The lines of a text from one place to another, with heads of some words: each of bytes that don't end it, and up to
+-- what does.
+unfoldable pub CoversBy : List (List ℕ) → List ℕ → ℕ → List TextLine → ℕ → Type 0
+CoversBy words text from [] to = from ≡ to
+CoversBy words text from (line ∷ lines) to =
+    IsLine from line × (IsToldBy words text line × ((size : ℕ) × (line.end ≡ from + size) × IsUnbroken text from size
+    × IsEnd text line.end × CoversBy words text (line.end + end_size text line.end) lines to))
+
+-- the lines of any text
+abbrev pub Covers : List ℕ → ℕ → List TextLine → ℕ → Type 0
+Covers text from lines to = CoversBy words_of_head text from lines to
 
 -- whether moves are in a line, by its kind: it is of a scramble or a step
 abbrev pub has_moves : TextLine → Bool
 has_moves line = (line.kind == 2) || (line.kind == 3)
 
--- A head may stand in a line from one place to another: there are no letters but those of its words.
-pub record MayBeHead (text : List ℕ) (from to : ℕ) : Type 0 where
+-- A head may stand in a line from one place to another: there are no letters but those of some words.
+pub record MayBeHead (allowed : List (List ℕ)) (text : List ℕ) (from to : ℕ) : Type 0 where
   pub order : from ≤ to
   pub unbroken : IsUnbroken text from (to - from)
-  pub words : HasOnlyWords words_of_head (slice_range text from to)
+  pub words : HasOnlyWords allowed (slice_range text from to)
 
 -- Lines of a text from one place to another, in each of which no moves are, as it is told. Nothing stands between them,
--- before the first and after the last but heads.
-unfoldable pub Passes : List ℕ → ℕ → List TextLine → ℕ → Type 0
-Passes text from [] to = MayBeHead text from to
-Passes text from (line ∷ lines) to =
-    MayBeHead text from line.begin × (IsLine line.begin line × (IsTold text line × ((has_moves line ≡ false) × ((size : ℕ) × (line.end ≡ line.begin + size)
-    × IsUnbroken text line.begin size × IsEnd text line.end × Passes text (line.end + end_size text line.end) lines to))))
+-- before the first and after the last but heads, of some words.
+unfoldable pub Passes : List (List ℕ) → List ℕ → ℕ → List TextLine → ℕ → Type 0
+Passes words text from [] to = MayBeHead words text from to
+Passes words text from (line ∷ lines) to =
+    MayBeHead words text from line.begin × (IsLine line.begin line × (IsToldBy words text line × ((has_moves line ≡ false) × ((size : ℕ) × (line.end ≡ line.begin + size)
+    × IsUnbroken text line.begin size × IsEnd text line.end × Passes words text (line.end + end_size text line.end) lines to))))
 
--- What stands in a text from one place to another has no moves: lines without any, and heads.
-abbrev pub HasNoneBetween : List ℕ → ℕ → ℕ → Type 0
-HasNoneBetween text from to = (lines : List TextLine) × Passes text from lines to
+-- What stands in a text from one place to another has no moves: lines without any, and heads of some words.
+abbrev pub HasNoneBy : List (List ℕ) → List ℕ → ℕ → ℕ → Type 0
+HasNoneBy words text from to = (lines : List TextLine) × Passes words text from lines to
 
 -- Some of the lines of a text from one place to another, in order: each from some place in its line to what ends that.
 -- What stands between them, before the first and after the last has no moves.
-unfoldable pub Takes : List ℕ → ℕ → List TextLine → ℕ → Type 0
-Takes text from [] to = HasNoneBetween text from to
-Takes text from (line ∷ lines) to =
-    HasNoneBetween text from line.begin × (IsLine line.begin line × (IsTold text line × ((size : ℕ) × (line.end ≡ line.begin + size) × IsUnbroken text line.begin size
-    × IsEnd text line.end × Takes text (line.end + end_size text line.end) lines to)))
+unfoldable pub TakesBy : List (List ℕ) → List ℕ → ℕ → List TextLine → ℕ → Type 0
+TakesBy words text from [] to = HasNoneBy words text from to
+TakesBy words text from (line ∷ lines) to =
+    HasNoneBy words text from line.begin × (IsLine line.begin line × (IsTold text line × ((size : ℕ) × (line.end ≡ line.begin + size) × IsUnbroken text line.begin size
+    × IsEnd text line.end × TakesBy words text (line.end + end_size text line.end) lines to)))
+
+-- both in a text of known scrambles
+abbrev pub HasNoneBetween : List ℕ → ℕ → ℕ → Type 0
+HasNoneBetween text from to = HasNoneBy words_of_any_head text from to
+
+abbrev pub Takes : List ℕ → ℕ → List TextLine → ℕ → Type 0
+Takes text from lines to = TakesBy words_of_any_head text from lines to
 
 -- A line of a text goes from one place to another, and is plain moves, or those up to the slashes of a comment.
 pub record IsPlainLine (text : List ℕ) (begin end : ℕ) : Type 0 where

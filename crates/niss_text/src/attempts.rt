@@ -1,7 +1,7 @@
 //! The attempts of a text as solvers write it: which of its lines are scrambles, steps and notes.
-ghost use Rattle.std.specs.Prelude.{◌≡◌, ◌≤◌, ◌<◌, ◌+◌, ◌⊎◌, ℕ, true, false, length, take, drop, set, slice_range, ◌&&◌, nat_le};
+ghost use Rattle.std.specs.Prelude.{◌≡◌, ◌≤◌, ◌<◌, ◌+◌, ◌⊎◌, ℕ, List, true, false, length, take, drop, set, slice_range, ◌&&◌, nat_le};
 ghost use Rattle.niss_text.specs.Numbers.{number_of_kind};
-ghost use Rattle.niss_text.specs.Lines.{IsLine, Covers, Counts, Takes, Remain, AreNumbered, Begins, BeginNumbered};
+ghost use Rattle.niss_text.specs.Lines.{Covers, Counts, TakesBy, Remain, AreNumbered, Begins, BeginNumbered};
 ghost use Rattle.niss_text.specs.Said.{is_a_head};
 ghost use Rattle.niss_text.specs.Groups.{AreGrouped, AreBelow, Goes, is_that};
 
@@ -12,7 +12,7 @@ use crate::line::{Head, Line, Numbers, cut_line, head_in_front};
 use crate::outline::{is_head, length_behind_scramble, outline_of};
 use crate::sign::from_place;
 use crate::status::Status;
-use crate::stretches::{has_extras, numbers_of, stretch_length};
+use crate::stretches::{listed_numbers, numbers_of, stretch_length};
 use crate::text_line::{LineKind, Role, TextLine, told_line};
 
 /// What `text_lines` returns.
@@ -200,8 +200,9 @@ fn put_attempt(
     ensures further { (begin < result.1) × (result.1 ≤ length text.now) }
     ensures covers { Covers text.now 0 (take written lines.old) begin → result.0 ≤ length lines.new →
         Covers text.now 0 (take result.0 lines.new) result.1 }
-    ensures takes { (from first : ℕ) → first ≤ written → Takes text.now from (slice_range lines.old first written) begin →
-        result.0 ≤ length lines.new → Takes text.now from (slice_range lines.new first result.0) result.1 }
+    ensures takes { (words : List (List ℕ)) (from first : ℕ) → first ≤ written →
+        TakesBy words text.now from (slice_range lines.old first written) begin → result.0 ≤ length lines.new →
+        TakesBy words text.now from (slice_range lines.new first result.0) result.1 }
     ensures kept { take written lines.new ≡ take written lines.old }
     ensures counts { Counts text.now 0 written begin → Counts text.now 0 result.0 result.1 }
     ensures remain { (all end : ℕ) → begin + attempt.now.length ≤ end → end ≤ length text.now → Remain text.now all written begin end →
@@ -263,8 +264,9 @@ pub fn put_attempts(text: &[u8], end: usize, so_far: Progress, lines: &mut [Text
     ensures further { (end ≤ result.at) × ((so_far.at ≤ result.at) × (result.at ≤ length text.now)) }
     ensures covers { Covers text.now 0 (take so_far.lines lines.old) so_far.at → result.lines ≤ length lines.new →
         Covers text.now 0 (take result.lines lines.new) result.at }
-    ensures takes { (from first : ℕ) → first ≤ so_far.lines → Takes text.now from (slice_range lines.old first so_far.lines) so_far.at →
-        result.lines ≤ length lines.new → Takes text.now from (slice_range lines.new first result.lines) result.at }
+    ensures takes { (words : List (List ℕ)) (from first : ℕ) → first ≤ so_far.lines →
+        TakesBy words text.now from (slice_range lines.old first so_far.lines) so_far.at → result.lines ≤ length lines.new →
+        TakesBy words text.now from (slice_range lines.new first result.lines) result.at }
     ensures kept { take so_far.lines lines.new ≡ take so_far.lines lines.old }
     ensures counts { Counts text.now 0 so_far.lines so_far.at → Counts text.now 0 result.lines result.at }
     ensures all { (all : ℕ) → Remain text.now all so_far.lines so_far.at end → (result.at ≡ end) × (result.lines ≡ all) }
@@ -279,7 +281,7 @@ pub fn put_attempts(text: &[u8], end: usize, so_far: Progress, lines: &mut [Text
     ensures behind { drop result.lines lines.new ≡ drop result.lines lines.old }
 {
     let part = &text[so_far.at.min(end)..end];
-    let has_extras = has_extras(part);
+    let listed = listed_numbers(part);
     let has_whole = is_whole_scramble(part);
     let mut stretch_end = 0;
     let mut numbers = Numbers::OfLines;
@@ -289,7 +291,7 @@ pub fn put_attempts(text: &[u8], end: usize, so_far: Progress, lines: &mut [Text
     while at < end {
         if at >= stretch_end {
             stretch_end = at + stretch_length(&text[at..end]);
-            numbers = numbers_of(&text[at..stretch_end], has_extras);
+            numbers = numbers_of(&text[at..stretch_end], listed);
         }
         let attempt = first_attempt(
             &text[at..end],
@@ -318,8 +320,9 @@ pub fn put_solution(text: &[u8], end: usize, so_far: Progress, lines: &mut [Text
     ensures more { so_far.lines ≤ result.lines }
     ensures within { (so_far.at ≤ result.at) × (result.at ≤ length text.now) }
     ensures remain { (all : ℕ) → Remain text.now all so_far.lines so_far.at end → Remain text.now all result.lines result.at end }
-    ensures takes { (from first : ℕ) → first ≤ so_far.lines → Takes text.now from (slice_range lines.old first so_far.lines) so_far.at →
-        result.lines ≤ length lines.new → Takes text.now from (slice_range lines.new first result.lines) result.at }
+    ensures takes { (words : List (List ℕ)) (from first : ℕ) → first ≤ so_far.lines →
+        TakesBy words text.now from (slice_range lines.old first so_far.lines) so_far.at → result.lines ≤ length lines.new →
+        TakesBy words text.now from (slice_range lines.new first result.lines) result.at }
     ensures kept { take so_far.lines lines.new ≡ take so_far.lines lines.old }
     ensures behind { drop result.lines lines.new ≡ drop result.lines lines.old }
 {

@@ -121,26 +121,17 @@ fn behind_first_frame(text: &[u8]) -> Option<&[u8]> {
 /// Whether all of a scramble stands in a line, which the WCA has begin and end with R' U' F. What stands beside it is at
 /// fault, or no move.
 pub fn is_whole_scramble(body: &[u8]) -> bool {
-    match behind_first_frame(body) {
-        Some(rest) => behind_first_frame(rest).is_some(),
-        None => false,
-    }
+    behind_first_frame(body).is_some_and(|rest| behind_first_frame(rest).is_some())
 }
 
 /// Whether a text is all of a scramble, before and after which no turn stands.
 pub fn is_framed(text: &[u8]) -> bool {
-    match behind_frame(text) {
-        Some(rest) => is_whole_scramble(text) && ends_with_frame(rest),
-        None => false,
-    }
+    behind_frame(text).is_some_and(|rest| is_whole_scramble(text) && ends_with_frame(rest))
 }
 
 /// Whether a line begins as all of a scramble does, and more turns follow.
 pub fn begins_scramble(body: &[u8]) -> bool {
-    match behind_frame(trimmed(body)) {
-        Some(rest) => has_turn(rest),
-        None => false,
-    }
+    behind_frame(trimmed(body)).is_some_and(|rest| has_turn(rest))
 }
 
 /// Whether R' U' F stands somewhere in a text twice in a row, as if one scramble ends where another begins: an apostrophe

@@ -1,5 +1,5 @@
 //! The groups of lines after a scramble: those directly under it, and the blocks after blank lines.
-ghost use Rattle.std.specs.Prelude.{◌≡◌, ◌≤◌, ◌<◌, true, false};
+ghost use Rattle.std.specs.Prelude.{◌≡◌, ◌<◌, true, false};
 ghost use Rattle.niss_text.specs.Groups.{IsFresh, IsEndedBy, Goes, is_that};
 
 use crate::body::{are_long, is_whole_move_before};
@@ -69,10 +69,7 @@ impl Group {
 pub fn is_that(solution: Option<usize>, group: usize) -> bool
     ensures { result ≡ is_that solution group }
 {
-    match solution {
-        Some(number) => number == group,
-        None => false,
-    }
+    solution == Some(group)
 }
 
 /// How many bytes a solution has at least that is written out: those of twelve moves with blanks between.
@@ -187,11 +184,7 @@ impl Stray {
             stray.found = Some(at);
             stray.group = group;
         } else if is_first {
-            stray.begun = if line.may_be_scramble() {
-                Some(at)
-            } else {
-                None
-            };
+            stray.begun = line.may_be_scramble().then_some(at);
         } else if self.begun.is_some() && (line.is_told() || !line.is_long()) {
             stray.found = self.begun;
             stray.group = group;

@@ -1,7 +1,7 @@
 //! What stands in front of a line before its label: its number, and what tells a scramble from others.
 ghost use Rattle.std.specs.Prelude.{◌≡◌, ◌≤◌, ◌<◌, ◌-◌, nat_lt, true, false, length, take, drop, map, slice_index};
 ghost use Rattle.std.specs.List.{Contains};
-ghost use Rattle.niss_text.specs.Kept.{BeginNoMoves, HasOnlyWords, small, words_of_head};
+ghost use Rattle.niss_text.specs.Kept.{BeginNoMoves, HasOnlyWords, small, words_of_any_head, words_of_head};
 ghost use Rattle.niss_text.specs.Doubts.{is_capital};
 ghost use Rattle.niss_text.specs.Said.{is_a_head};
 ghost use Rattle.niss_text.specs.declared.line.Head.TheVariants.{None as NoHead};
@@ -26,6 +26,19 @@ fn head_word_length(text: &[u8]) -> usize
         b'a' | b'A' => word_length(text, b"attempt"),
         b'e' | b'E' => word_length(text, b"extra"),
         _ => 0,
+    }
+}
+
+/// How many bytes the name has that solvers give a scramble which is known, if a text begins with one; else 0.
+fn name_length(text: &[u8]) -> usize
+    ensures fits { result ≤ length text.now }
+    ensures word { 0 < result → Contains words_of_any_head (map small (take result text.now)) }
+{
+    let cube = word_length(text, b"cube");
+    if cube > 0 {
+        cube
+    } else {
+        word_length(text, b"solve")
     }
 }
 
@@ -87,25 +100,25 @@ pub fn is_parted(line: &[u8]) -> bool {
 }
 
 /// How many bytes an opened bracket has in front of a line, or the letter of an extra in a list that has some; else 0.
-fn list_mark_length(line: &[u8], has_extras: bool) -> usize
+fn list_mark_length(line: &[u8], numbers: Numbers) -> usize
     ensures fits { result ≤ length line.now }
     ensures words { HasOnlyWords words_of_head (take result line.now) }
 {
     let bracket = mark_length(line, b'(');
-    if bracket > 0 || !has_extras {
-        bracket
-    } else {
+    if bracket == 0 && numbers == Numbers::WithExtras {
         mark_length(line, b'E')
+    } else {
+        bracket
     }
 }
 
 /// How many bytes a number has that stands before one of several scrambles and isn't the number of a line, such as `2`,
 /// `(2)` or, in a list with such extras, `E2`; 0 if there is none.
-pub fn listed_length(line: &[u8], has_extras: bool) -> usize
+fn listed_length(line: &[u8], numbers: Numbers) -> usize
     ensures fits { result ≤ length line.now }
     ensures words { HasOnlyWords words_of_head (take result line.now) }
 {
-    let mark = list_mark_length(line, has_extras);
+    let mark = list_mark_length(line, numbers);
     let number = from_place(line, mark);
     let digits = digits_length(number);
     if digits == 0 {
@@ -178,6 +191,28 @@ fn behind_end(line: &[u8]) -> &[u8]
     }
 }
 
+/// How many bytes the number of a head has in front of what follows its word, with blanks, such as ` 1 of 3:`; 0 if none is
+/// there.
+fn head_number_length(text: &[u8]) -> usize
+    ensures fits { result ≤ length text.now }
+    ensures words { HasOnlyWords words_of_head (take result text.now) }
+{
+    let number = trimmed(text);
+    let marked = from_place(number, mark_length(number, b'#'));
+    let digits = digits_length(marked);
+    if digits == 0 {
+        return 0;
+    }
+    let rest = from_place(marked, digits);
+    let total = behind_total(rest);
+    let end = behind_end(total);
+    if end.len() < total.len() || is_parted(end) {
+        text.len() - end.len()
+    } else {
+        0
+    }
+}
+
 /// How many bytes the word before a scramble has in front of a line, with its number, such as `Attempt 1 of 3`, or with
 /// a colon; 0 if there is none.
 pub fn head_length(line: &[u8]) -> usize
@@ -188,22 +223,26 @@ pub fn head_length(line: &[u8]) -> usize
     if word == 0 {
         return 0;
     }
-    let number = trimmed(from_place(line, word));
-    let colon = sign_length(number, Kind::Colon);
+    let rest = from_place(line, word);
+    let after = trimmed(rest);
+    let colon = sign_length(after, Kind::Colon);
     if colon > 0 {
-        return line.len() - number.len() + colon;
+        return line.len() - after.len() + colon;
     }
-    let mark = mark_length(number, b'#');
-    let marked = from_place(number, mark);
-    let digits = digits_length(marked);
-    if digits == 0 {
-        return 0;
-    }
-    let rest = from_place(marked, digits);
-    let total = behind_total(rest);
-    let end = behind_end(total);
-    if end.len() < total.len() || is_parted(end) {
-        line.len() - end.len()
+    let number = head_number_length(rest);
+    if number > 0 { word + number } else { 0 }
+}
+
+/// How many bytes `Cube 2` or `Solve 2` has in front of a line, as solvers call a scramble that is known; 0 if neither
+/// stands there.
+pub fn named_length(line: &[u8]) -> usize
+    ensures fits { result ≤ length line.now }
+    ensures words { HasOnlyWords words_of_any_head (take result line.now) }
+{
+    let word = name_length(line);
+    let number = head_number_length(from_place(line, word));
+    if word > 0 && number > 0 {
+        word + number
     } else {
         0
     }
@@ -240,7 +279,7 @@ pub fn head_of(line: &[u8], numbers: Numbers) -> (Head, usize)
     if number > 0 {
         return (Head::Number, number);
     }
-    match listed_length(line, numbers == Numbers::WithExtras) {
+    match listed_length(line, numbers) {
         0 => (Head::None, 0),
         listed => (Head::Number, listed),
     }

@@ -1,8 +1,9 @@
 //! A text that has only solutions, of scrambles that are known: which part of it is of which scramble, and what its
 //! lines are after that scramble.
 ghost use Rattle.std.specs.Prelude.{◌≡◌, ◌≤◌, ◌<◌, ◌+◌, ◌⊎◌, ◌||◌, ℕ, List, false, MatchOption, is_some, length, drop, get_or, set, take};
+ghost use Rattle.niss_text.specs.Kept.{words_of_any_head};
 ghost use Rattle.niss_text.specs.Known.{AreKnown, AreApart, AreAssigned, AreCounted, AreNamedAs, AreOf, AreSaid, IsCountedAlone, IsName, IsNumbered, HasBody, HaveLines, HaveNames, PartsTake, have_numbers, scramble_with};
-ghost use Rattle.niss_text.specs.Lines.{Counts, Covers, Takes, TellsPlain};
+ghost use Rattle.niss_text.specs.Lines.{Counts, CoversBy, Takes, TellsPlain};
 
 use crate::attempts::{Progress, put_attempts, put_solution};
 use crate::parts::{Part, first_part, has_head};
@@ -60,10 +61,9 @@ fn put_part(parts: &mut [KnownPart], count: usize, part: KnownPart)
 fn scramble_of_number(number: Option<usize>) -> usize
     ensures { result ≡ scramble_with number }
 {
-    match number {
-        Some(number) if number > 0 => number - 1,
-        _ => usize::MAX,
-    }
+    number
+        .and_then(|number| number.checked_sub(1))
+        .unwrap_or(usize::MAX)
 }
 
 impl Reading {
@@ -155,13 +155,14 @@ fn read_parts(
     requires { count ≤ length lines.old }
     ensures at { result.read.at ≤ length text.now }
     ensures few { result.parts ≤ count }
-    ensures takes { Covers text.now 0 (take count lines.old) (length text.now) → Takes text.now 0 (take result.read.lines lines.new) (length text.now) }
-    ensures told { Covers text.now 0 (take count lines.old) (length text.now) → result.parts ≤ length parts.new →
+    ensures takes { CoversBy words_of_any_head text.now 0 (take count lines.old) (length text.now) →
+        Takes text.now 0 (take result.read.lines lines.new) (length text.now) }
+    ensures told { CoversBy words_of_any_head text.now 0 (take count lines.old) (length text.now) → result.parts ≤ length parts.new →
         PartsTake text.now lines.new 0 (take result.parts parts.new) (length text.now) }
-    ensures few_lines { Covers text.now 0 (take count lines.old) (length text.now) → result.read.lines ≤ count }
+    ensures few_lines { CoversBy words_of_any_head text.now 0 (take count lines.old) (length text.now) → result.read.lines ≤ count }
     ensures lines { result.parts ≤ length parts.new → HaveLines 0 (take result.parts parts.new) result.read.lines }
     ensures says { result.parts ≤ length parts.new → AreSaid text.now (take result.parts parts.new) }
-    ensures names { Covers text.now 0 (take count lines.old) (length text.now) → result.parts ≤ length parts.new →
+    ensures names { CoversBy words_of_any_head text.now 0 (take count lines.old) (length text.now) → result.parts ≤ length parts.new →
         HaveNames text.now (take result.parts parts.new) }
     ensures numbered { result.parts ≤ length parts.new → result.has_numbers ≡ have_numbers text.now (take result.parts parts.new) }
     ensures behind_parts { drop result.parts parts.new ≡ drop result.parts parts.old }

@@ -1,7 +1,7 @@
 //! A line of a text: where its parts are, and what is seen of it.
 ghost use Rattle.std.specs.Prelude.{◌≡◌, ◌≤◌, ◌<◌, ◌+◌, ◌⊎◌, nat_lt, ℕ, true, false, length, take, drop, slice_index, slice_range};
 ghost use Rattle.niss_text.specs.Signs.{ends_line, HasNoMoves};
-ghost use Rattle.niss_text.specs.Kept.{BeginNoMoves, IsTitleEnd, LosesNone, AreInNotation, ArePlainBefore, begins_with_turn};
+ghost use Rattle.niss_text.specs.Kept.{BeginNoMoves, IsTitleEnd, LosesNone, AreInNotation, ArePlainBefore, begins_with_turn, words_of_head};
 ghost use Rattle.niss_text.specs.Said.{HasNoSlashes, IsLabelled, SaysSolution, is_a_head};
 ghost use Rattle.niss_text.specs.Lines.{IsUnbroken, IsEnd, end_of, end_size};
 
@@ -261,7 +261,7 @@ fn is_bare(line: &[u8]) -> bool
 pub fn line_of(line: &[u8], numbers: Numbers) -> Line
     ensures length { result.length ≡ length line.now }
     ensures headed { is_a_head result.head_kind ≡ nat_lt 0 result.head }
-    ensures kept { LosesNone line.now 0 result.head result.label_begin result.label_end result.moves }
+    ensures kept { LosesNone words_of_head line.now 0 result.head result.label_begin result.label_end result.moves }
     ensures blank { result.is_blank ≡ true → HasNoMoves (drop result.head line.now) }
     ensures alone { result.is_head_alone ≡ true → HasNoMoves (drop result.head line.now) }
     ensures comment { begins_with_turn (drop result.comment line.now) ≡ false }
@@ -315,7 +315,7 @@ pub fn cut_line(text: &[u8], numbers: Numbers) -> (Line, usize)
     ensures ends { result.1 ≡ result.0.length + end_size text.now result.0.length }
     ensures ended { IsEnd text.now result.0.length }
     ensures headed { is_a_head result.0.head_kind ≡ nat_lt 0 result.0.head }
-    ensures kept { LosesNone (take result.0.length text.now) 0 result.0.head result.0.label_begin result.0.label_end result.0.moves }
+    ensures kept { LosesNone words_of_head (take result.0.length text.now) 0 result.0.head result.0.label_begin result.0.label_end result.0.moves }
     ensures blank { result.0.is_blank ≡ true → HasNoMoves (drop result.0.head (take result.0.length text.now)) }
     ensures alone { result.0.is_head_alone ≡ true → HasNoMoves (drop result.0.head (take result.0.length text.now)) }
     ensures comment { begins_with_turn (drop result.0.comment (take result.0.length text.now)) ≡ false }

@@ -94,12 +94,8 @@ fn is_parted(text: &[u8]) -> bool {
 fn letters_length(text: &[u8]) -> usize
     ensures { result ≤ length text.now }
 {
-    for (at, byte) in text.iter().enumerate() {
-        if !is_letter(*byte) {
-            return at;
-        }
-    }
-    text.len()
+    let end = text.iter().position(|byte| !is_letter(*byte));
+    end.unwrap_or(text.len())
 }
 
 /// Whether a word may have a letter beside it that is of what it says: two letters at least, and no name by which solvers
@@ -127,10 +123,7 @@ pub fn letter_of_words(moves: &[u8], words: &[u8]) -> Option<usize>
         return None;
     }
     let begin = last_word(moves);
-    if is_letter_alone(&moves[begin..]) {
-        return Some(begin);
-    }
-    None
+    is_letter_alone(&moves[begin..]).then_some(begin)
 }
 
 /// The last word of a text, as blanks part them, without those after it.
@@ -165,10 +158,8 @@ pub fn times_at_end(moves: &[u8]) -> Option<usize>
     let begin = last_word(moves);
     let word = &moves[begin..];
     let is_bracketed = word.len() > 2 && word[0] == b'(';
-    if begin > 0 && (begins_times(word) || (is_bracketed && begins_times(&word[1..]))) {
-        return Some(begin);
-    }
-    None
+    let is_times = begins_times(word) || (is_bracketed && begins_times(&word[1..]));
+    (begin > 0 && is_times).then_some(begin)
 }
 
 /// Whether a byte may be the first of a sign that is written among moves as a mark: of no word, and of none that parts
@@ -223,16 +214,8 @@ pub fn has_slice(moves: &[u8]) -> bool {
 fn gap_at(moves: &[u8], gap: u8) -> Option<usize>
     ensures { IfSome result (λ at. at ≤ length moves.now) }
 {
-    for (at, byte) in moves.iter().enumerate() {
-        if *byte == gap {
-            return if has_turn(&moves[at..]) {
-                Some(at)
-            } else {
-                None
-            };
-        }
-    }
-    None
+    let at = moves.iter().position(|byte| *byte == gap)?;
+    has_turn(&moves[at..]).then_some(at)
 }
 
 /// Where a tab stands between moves of which others have a blank between them: they may be of two columns.

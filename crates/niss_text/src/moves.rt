@@ -2,7 +2,6 @@
 ghost use Rattle.std.specs.Prelude.{◌≡◌, ◌<◌, ◌≤◌, ◌+◌, ◌*◌, ◌-◌, ◌++◌, true, Some, length, take, drop, set, slice_range};
 ghost use Rattle.std.specs.List.{list_any};
 ghost use Rattle.niss_text.specs.Signs.{is_digit};
-ghost use Rattle.niss_text.specs.LeftOut.{left_none};
 ghost use Rattle.niss_text.specs.Moves.{is_wanted, is_inverse, left_around, moves_of_number, gap_of, gap_after, place_after, opening, opening_place, closing, closing_place, WritesMoves};
 ghost use Rattle.niss_text.specs.Written.{AddsLine};
 
@@ -195,10 +194,7 @@ impl Joined {
         requires { self.pen.length < usize.MAX }
         ensures { result ≡ self.pen.length + length (gap_after self.gap self.before) }
     {
-        match self.before {
-            Some(_) => self.pen.length + 1,
-            None => self.pen.length,
-        }
+        self.pen.length + usize::from(self.before.is_some())
     }
 
     /// Writes the moves of one more line.

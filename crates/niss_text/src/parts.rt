@@ -1,8 +1,9 @@
 //! The parts of a text that has only solutions, of scrambles that are known: what stands under each head, or in each block
 //! if the text has no heads.
 ghost use Rattle.std.specs.Prelude.{◌≡◌, ◌≤◌, ◌<◌, ◌==◌, ◌||◌, ◌&&◌, ◌⊎◌, ℕ, List, true, false, not, None, is_some, length, take, drop};
+ghost use Rattle.niss_text.specs.Kept.{words_of_any_head};
 ghost use Rattle.niss_text.specs.Known.{with_digit, is_extra, head_number, number_of_line, HaveHeads, IsName, IsNamed, IsNumbered, IsRead};
-ghost use Rattle.niss_text.specs.Lines.{Covers, has_moves};
+ghost use Rattle.niss_text.specs.Lines.{CoversBy, has_moves};
 ghost use Rattle.niss_text.specs.Doubts.{is_letter};
 
 use crate::moves::part_of;
@@ -221,7 +222,7 @@ impl Part {
 
 /// Where the first of some lines stands, or the place where they end if there is none.
 fn place_of(lines: &[TextLine], end: usize) -> usize
-    ensures { (text : List ℕ) (at : ℕ) → Covers text at lines.now end → result ≡ at }
+    ensures { (text : List ℕ) (at : ℕ) → CoversBy words_of_any_head text at lines.now end → result ≡ at }
 {
     match lines.split_first() {
         Some((line, _)) => line.begin,
@@ -236,8 +237,9 @@ pub fn first_part(text: &[u8], lines: &[TextLine], is_by_blocks: bool) -> (Part,
     ensures numbered { IsNumbered text.now result.0 }
     ensures named { IsNamed (take result.1 lines.now) result.0 }
     ensures name { HaveHeads text.now lines.now → IsName text.now result.0.name_begin result.0.name_end }
-    ensures read { (from : ℕ) → Covers text.now from lines.now (length text.now) → IsRead text.now from result.1 result.0 }
-    ensures rest { (from : ℕ) → Covers text.now from lines.now (length text.now) → Covers text.now result.0.end (drop result.1 lines.now) (length text.now) }
+    ensures read { (from : ℕ) → CoversBy words_of_any_head text.now from lines.now (length text.now) → IsRead text.now from result.1 result.0 }
+    ensures rest { (from : ℕ) → CoversBy words_of_any_head text.now from lines.now (length text.now) →
+        CoversBy words_of_any_head text.now result.0.end (drop result.1 lines.now) (length text.now) }
 {
     let mut part = Part::nothing();
     let mut rest = lines;

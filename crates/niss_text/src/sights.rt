@@ -1,6 +1,6 @@
 //! What is looked for at each place of a line, and where it is seen first.
-ghost use Rattle.std.specs.Prelude.{◌≡◌, ◌≤◌, ◌<◌, ℕ, true, false, length, slice_index};
-ghost use Rattle.niss_text.specs.Doubts.{is_small, is_capital, is_prime, is_letter, ends_move, closes, is_times, is_cross, last_of_times};
+ghost use Rattle.std.specs.Prelude.{◌≡◌, ◌≤◌, ◌<◌, true, false, length, slice_index};
+ghost use Rattle.niss_text.specs.Doubts.{is_small, is_capital, is_prime, is_letter, ends_move, closes, is_times, is_cross};
 ghost use Rattle.niss_text.specs.Doubts.{is_after_bracket, is_before_digit, is_repeated, is_marked, is_comma, ends_capital, is_after_move, is_before_letter, is_between, is_gap, is_joint, turn_size, are_opposite, is_axis, is_pair, sees, HasNone};
 
 use crate::sign::is_digit_byte;

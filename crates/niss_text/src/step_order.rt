@@ -78,13 +78,11 @@ fn steps_named(text: &[u8], before: Option<Named>) -> Option<Named> {
     while !rest.is_empty() {
         let letters = letters_in_front(rest);
         if let Some(name) = StepName::of(&rest[..letters]) {
-            named = match named {
-                Some(others) => Some(others.with(name)),
-                None => Some(Named {
-                    first: name,
-                    last: name,
-                }),
+            let alone = Named {
+                first: name,
+                last: name,
             };
+            named = Some(named.map_or(alone, |others| others.with(name)));
         }
         rest = behind_letters(rest, letters);
     }
@@ -170,10 +168,10 @@ impl Called {
     {
         if line.is_step {
             let named = steps_named(&text[line.label_begin..line.label_end], None);
-            return match steps_named(&text[line.comment..line.length], named) {
-                Some(names) => self.with_names(names),
-                None => (self, false),
-            };
+            return steps_named(&text[line.comment..line.length], named).map_or(
+                (self, false),
+                |names| self.with_names(names),
+            );
         }
         let lead = &text[line.head..line.moves];
         match number_in(lead) {
@@ -191,13 +189,10 @@ struct Marks {
 
 /// Where the last turn of some moves stands.
 fn last_turn(moves: &[u8]) -> usize {
-    let mut last = 0;
-    for (at, byte) in moves.iter().enumerate() {
-        if is_capital(*byte) {
-            last = at;
-        }
-    }
-    last
+    moves
+        .iter()
+        .rposition(|byte| is_capital(*byte))
+        .unwrap_or(0)
 }
 
 /// The digit in round brackets that a text begins with.
@@ -298,7 +293,7 @@ impl Order {
         let (called, is_late) = above.with(text, line);
         Order {
             called,
-            found: if is_late { Some(at) } else { None },
+            found: is_late.then_some(at),
             group,
             ..seen
         }
@@ -342,12 +337,8 @@ fn has_letter(text: &[u8]) -> bool {
 
 /// What stands in a text before its first digit.
 fn before_digit(text: &[u8]) -> &[u8] {
-    for (at, byte) in text.iter().enumerate() {
-        if is_digit_byte(*byte) {
-            return &text[..at];
-        }
-    }
-    text
+    let digit = text.iter().position(|byte| is_digit_byte(*byte));
+    &text[..digit.unwrap_or(text.len())]
 }
 
 /// The number of a text after the words that it begins with.

@@ -10,7 +10,7 @@ use crate::parts::number_in;
 use crate::sign::trimmed;
 
 /// Whether a text has a line that begins the extras of a sheet: E2 is a move too, but not beside E1, which is none.
-pub fn has_extras(text: &[u8]) -> bool {
+fn has_extras(text: &[u8]) -> bool {
     let mut rest = text;
     while !rest.is_empty() {
         if begins_extras(trimmed(rest)) {
@@ -19,6 +19,15 @@ pub fn has_extras(text: &[u8]) -> bool {
         rest = &rest[whole_length(rest)..];
     }
     false
+}
+
+/// Which numbers may tell the scrambles of a text apart.
+pub fn listed_numbers(text: &[u8]) -> Numbers {
+    if has_extras(text) {
+        Numbers::WithExtras
+    } else {
+        Numbers::Listed
+    }
 }
 
 /// Whether a line begins with the first extra.
@@ -107,10 +116,7 @@ fn goes_on(text: &[u8], numbers: Numbers, number: usize) -> bool {
 /// Whether numbers in front of lines are those of steps under a scramble, which has the first of them itself: another one
 /// has it too, after which this text goes on.
 fn are_of_steps(text: &[u8], numbers: Numbers, first: Option<usize>, next: Option<usize>) -> bool {
-    match first {
-        Some(number) => next == first && goes_on(text, numbers, number.saturating_add(1)),
-        None => false,
-    }
+    next == first && first.is_some_and(|number| goes_on(text, numbers, number.saturating_add(1)))
 }
 
 /// Whether the numbers in front of lines tell scrambles apart: two at least have moves, or one that has a sign that no
@@ -165,15 +171,10 @@ fn has_number(text: &[u8], numbers: Numbers) -> bool {
     false
 }
 
-/// The numbers that tell the scrambles of a stretch apart.
-pub fn numbers_of(text: &[u8], has_extras: bool) -> Numbers {
-    let numbers = if has_extras {
-        Numbers::WithExtras
-    } else {
-        Numbers::Listed
-    };
-    if has_number(text, numbers) && are_listed(text, numbers) {
-        numbers
+/// The numbers that tell the scrambles of a stretch apart: these, if they do.
+pub fn numbers_of(text: &[u8], listed: Numbers) -> Numbers {
+    if has_number(text, listed) && are_listed(text, listed) {
+        listed
     } else {
         Numbers::OfLines
     }

@@ -1,12 +1,15 @@
-//! Heads that words follow, such as `Attempt 2: DNF`: with known scrambles they begin a part too.
-ghost use Rattle.std.specs.Prelude.{◌≡◌, ◌≤◌, ◌<◌, ◌+◌, ℕ, true, false, length, slice_index, slice_range, take};
+//! Heads that words follow, such as `Attempt 2: DNF`, or that have other words, as `Cube 2`: with known scrambles they
+//! begin a part too.
+ghost use Rattle.std.specs.Prelude.{◌≡◌, ◌≤◌, ◌<◌, ◌+◌, ℕ, true, false, length, slice_index, slice_range, take, drop, IfSome};
 ghost use Rattle.niss_text.specs.Doubts.{is_capital};
-ghost use Rattle.niss_text.specs.Kept.{AreInNotation, ArePlainBefore, HasOnlyWords, words_of_head};
-ghost use Rattle.niss_text.specs.Known.{AreOrHeaded, IsHeaded, IsOrHeaded, scramble_with};
-ghost use Rattle.niss_text.specs.Lines.{Covers, IsLine, IsTold};
+ghost use Rattle.niss_text.specs.Kept.{AreInNotation, ArePlainBefore, HasOnlyWords, words_of_any_head};
+ghost use Rattle.niss_text.specs.Known.{AreOrHeaded, IsHeaded, IsOrHeaded, MayBeHeaded, scramble_with};
+ghost use Rattle.niss_text.specs.Lines.{CoversBy, IsLine, IsToldBy};
+ghost use Rattle.niss_text.specs.Numbers.{number_of_kind};
+ghost use Rattle.niss_text.specs.Signs.{HasNoMoves};
 
 use crate::forms::margin;
-use crate::heads::{head_of, number_length};
+use crate::heads::{head_of, named_length, number_length};
 use crate::line::{Head, Numbers, is_empty_from, line_of};
 use crate::moves::part_of;
 use crate::parts::{first_part, has_head, has_moves, number_in, number_of};
@@ -14,33 +17,35 @@ use crate::sights::{byte_at, is_capital};
 use crate::sign::from_place;
 use crate::text_line::{LineKind, TextLine};
 
-/// How many bytes a head has in front of a line with the blanks before it, whatever follows; if it has none, those of
-/// the blanks. A number is one only if the line stands free.
-fn worded_head_length(line: &[u8], is_free: bool) -> usize
-    ensures fits { result ≤ length line.now }
-    ensures words { HasOnlyWords words_of_head (take result line.now) }
+/// What tells a scramble that is known from others in front of a line, whatever follows, and how many bytes it has with
+/// the blanks before it. A number does only if the line stands free.
+fn worded_head(line: &[u8], is_free: bool) -> Option<(Head, usize)>
+    ensures some { IfSome result (λ head. 0 < head.1) }
+    ensures fits { IfSome result (λ head. head.1 ≤ length line.now) }
+    ensures words { IfSome result (λ head. HasOnlyWords words_of_any_head (take head.1 line.now)) }
 {
     let begin = margin(line);
     let rest = from_place(line, begin);
     let (kind, word) = head_of(rest, Numbers::OfLines);
     if kind == Head::Word {
-        begin + word
-    } else if is_free {
-        begin + number_length(rest)
+        return Some((Head::Word, begin + word));
+    }
+    let name = named_length(rest);
+    if name > 0 {
+        return Some((Head::Word, begin + name));
+    }
+    let number = number_length(rest);
+    if is_free && number > 0 {
+        Some((Head::Number, begin + number))
     } else {
-        begin
+        None
     }
 }
 
-/// A line as one whose head ends there: what follows are words.
-fn with_head(line: &TextLine, head_end: usize, is_alone: bool) -> TextLine
-    ensures { IsHeaded line.now head_end is_alone result }
+/// A line as one whose head ends there, and of which nothing else is told but its kind.
+fn with_head(line: &TextLine, head_end: usize, kind: LineKind) -> TextLine
+    ensures { IsHeaded line.now head_end (number_of_kind kind) result }
 {
-    let kind = if is_alone {
-        LineKind::Blank
-    } else {
-        LineKind::Note
-    };
     TextLine {
         kind: kind.number(),
         is_solution: 0,
@@ -109,86 +114,134 @@ struct Search<'a> {
     is_over_moves: bool,
 }
 
+/// A head in front of a line.
+#[derive(Clone, Copy)]
+struct WordedHead {
+    /// Where it ends in the text.
+    end: usize,
+    /// What the line is told to be with it: blank, or with moves, as a scramble's line is, or with words.
+    kind: LineKind,
+}
+
+/// What a line is told to be with a head in front of it, after which moves may follow only if that is a word.
+fn kind_behind(line: &[u8], head: (Head, usize)) -> Option<LineKind>
+    requires { (0 < head.1) × (head.1 ≤ length line.now) }
+    ensures kind { IfSome result (λ kind. MayBeHeaded (number_of_kind kind)) }
+    ensures plain { IfSome result (λ kind. AreInNotation line.now → ⊥) }
+    ensures commented { IfSome result (λ kind. (count : ℕ) → ArePlainBefore line.now count → ⊥) }
+    ensures blank { IfSome result (λ kind. number_of_kind kind ≡ 0 → HasNoMoves (drop head.1 line.now)) }
+{
+    // a scramble may have lines without moves
+    let seen = line_of(line, Numbers::OfLines);
+    if !seen.is_moves {
+        return if is_empty_from(line, head.1) {
+            Some(LineKind::Blank)
+        } else {
+            Some(LineKind::Note)
+        };
+    }
+    if head.0 == Head::Word && seen.moves > 0 {
+        Some(LineKind::Scramble)
+    } else {
+        None
+    }
+}
+
 impl Search<'_> {
-    /// How many bytes a head with a number has in front of a line, with the blanks before it; 0 if it has none, or is told
-    /// to have one, or moves.
-    fn head_length(&self, line: &TextLine, above: Above) -> usize
-        ensures unheaded { 0 < result → line.now.is_headed ≡ 0 }
-        ensures plain { 0 < result → AreInNotation (slice_range self.now.text.now line.now.begin line.now.end) → ⊥ }
-        ensures commented { 0 < result → (count : ℕ) → ArePlainBefore (slice_range self.now.text.now line.now.begin line.now.end) count → ⊥ }
-        ensures within { 0 < result → line.now.begin + result ≤ line.now.end }
-        ensures words { 0 < result → HasOnlyWords words_of_head (slice_range self.now.text.now line.now.begin (line.now.begin + result)) }
-        ensures rest { 0 < result → is_capital (slice_index (slice_range self.now.text.now (line.now.begin + result) line.now.end) 0) ≡ false }
+    /// The head with a number in front of a line, if it isn't told to have one.
+    fn head_of_line(&self, line: &TextLine, above: Above) -> Option<WordedHead>
+        ensures some { IfSome result (λ head. line.now.begin < head.end) }
+        ensures unheaded { IfSome result (λ head. line.now.is_headed ≡ 0) }
+        ensures plain { IfSome result (λ head. AreInNotation (slice_range self.now.text.now line.now.begin line.now.end) → ⊥) }
+        ensures commented { IfSome result (λ head. (count : ℕ) → ArePlainBefore (slice_range self.now.text.now line.now.begin line.now.end) count → ⊥) }
+        ensures within { IfSome result (λ head. head.end ≤ line.now.end) }
+        ensures words { IfSome result (λ head. HasOnlyWords words_of_any_head (slice_range self.now.text.now line.now.begin head.end)) }
+        ensures rest { IfSome result (λ head. is_capital (slice_index (slice_range self.now.text.now head.end line.now.end) 0) ≡ false) }
+        ensures kind { IfSome result (λ head. MayBeHeaded (number_of_kind head.kind)) }
+        ensures blank { IfSome result (λ head. number_of_kind head.kind ≡ 0 → HasNoMoves (slice_range self.now.text.now head.end line.now.end)) }
     {
         if above == Above::HeadAlone {
-            return 0;
+            return None;
         }
         if line.is_headed != 0 {
-            return 0;
+            return None;
         }
         let whole = part_of(self.text, line.begin, line.end);
-        let head = worded_head_length(whole, above == Above::Gap);
-        if number_in(&whole[..head]).is_none() || is_capital(byte_at(whole, head)) {
-            return 0;
+        let head = worded_head(whole, above == Above::Gap)?;
+        let length = head.1;
+        if number_in(&whole[..length]).is_none() || is_capital(byte_at(whole, length)) {
+            return None;
         }
-        // a scramble may have lines without moves
-        if line_of(whole, Numbers::OfLines).is_moves {
-            0
-        } else {
-            head
-        }
+        let kind = kind_behind(whole, head)?;
+        Some(WordedHead {
+            end: line.begin + length,
+            kind,
+        })
     }
 
-    /// Whether moves stand in the lines below a head, before the next one.
-    fn has_moves_in(&self, lines: &[TextLine]) -> bool {
+    /// Whether moves stand in the lines below a head, before the next one, if that is asked; and how many of these lines
+    /// were looked at, and have no head.
+    fn moves_below(&self, head: WordedHead, lines: &[TextLine]) -> (bool, usize)
+        ensures { result.1 ≤ length lines.now }
+    {
+        if !self.is_over_moves || head.kind == LineKind::Scramble {
+            return (true, 0);
+        }
         let mut above = Above::Gap;
-        for line in lines {
-            if line.is_headed != 0 || self.head_length(line, above) > 0 {
-                return false;
+        for (count, line) in lines.iter().enumerate() {
+            if line.is_headed != 0 || self.head_of_line(line, above).is_some() {
+                return (false, count);
             }
             if has_moves(line) {
-                return true;
+                return (true, count + 1);
             }
             above = Above::of(line);
         }
-        false
+        (false, lines.len())
     }
 
-    /// A line with the head in front of it, if that has the number of a scramble which wasn't seen. It is seen then.
+    /// A line with the head in front of it, if that has the number of a scramble which wasn't seen; it is seen then. And
+    /// how many of the lines below it were looked at, and have no head.
     fn or_headed(
         &self,
         line: &TextLine,
         below: &[TextLine],
         above: Above,
         counts: &mut [u64],
-    ) -> TextLine
-        ensures begin { result.begin ≡ line.now.begin }
-        ensures end { result.end ≡ line.now.end }
-        ensures line { IsLine line.now.begin line.now → IsLine line.now.begin result }
-        ensures told { IsLine line.now.begin line.now → IsTold self.now.text.now line.now → IsTold self.now.text.now result }
-        ensures only { IsOrHeaded self.now.text.now (length counts.old) line.now result }
+    ) -> (TextLine, usize)
+        ensures begin { result.0.begin ≡ line.now.begin }
+        ensures end { result.0.end ≡ line.now.end }
+        ensures line { IsLine line.now.begin line.now → IsLine line.now.begin result.0 }
+        ensures told { IsLine line.now.begin line.now → IsToldBy words_of_any_head self.now.text.now line.now →
+            IsToldBy words_of_any_head self.now.text.now result.0 }
+        ensures only { IsOrHeaded self.now.text.now (length counts.old) line.now result.0 }
+        ensures below { result.1 ≤ length below.now }
     {
-        let head = self.head_length(line, above);
-        if head == 0 || (self.is_over_moves && !self.has_moves_in(below)) {
-            return *line;
+        let Some(head) = self.head_of_line(line, above) else {
+            return (*line, 0);
+        };
+        let (has_moves, count) = self.moves_below(head, below);
+        if !has_moves {
+            return (*line, count);
         }
-        let head_end = line.begin + head;
-        if !is_new(number_in(part_of(self.text, line.begin, head_end)), counts) {
-            return *line;
+        if !is_new(number_in(part_of(self.text, line.begin, head.end)), counts) {
+            return (*line, count);
         }
-        let words = part_of(self.text, head_end, line.end);
-        with_head(line, head_end, is_empty_from(words, 0))
+        (with_head(line, head.end, head.kind), count)
     }
 
     /// Has lines begin with the heads in front of them whose number wasn't seen.
     fn put_in(&self, lines: &mut [TextLine], counts: &mut [u64])
-        ensures covers { Covers self.now.text.now 0 lines.old (length self.now.text.now) → Covers self.now.text.now 0 lines.new (length self.now.text.now) }
+        ensures covers { CoversBy words_of_any_head self.now.text.now 0 lines.old (length self.now.text.now) →
+            CoversBy words_of_any_head self.now.text.now 0 lines.new (length self.now.text.now) }
         ensures only { AreOrHeaded self.now.text.now (length counts.old) lines.old lines.new }
     {
         let mut above = Above::Gap;
         let mut at = 0;
         while at < lines.len() {
-            lines[at] = self.or_headed(&lines[at], &lines[at + 1..], above, counts);
+            let (line, below) = self.or_headed(&lines[at], &lines[at + 1..], above, counts);
+            lines[at] = line;
+            at += below;
             above = Above::of(&lines[at]);
             at += 1;
         }
@@ -219,7 +272,8 @@ fn are_in_order(text: &[u8], lines: &[TextLine], scrambles: usize) -> bool {
 /// several the first one below which moves stand, or the first. What stood in the counts says nothing, nor what stands
 /// there then.
 pub fn put_heads(text: &[u8], lines: &mut [TextLine], counts: &mut [u64])
-    ensures covers { Covers text.now 0 lines.old (length text.now) → Covers text.now 0 lines.new (length text.now) }
+    ensures covers { CoversBy words_of_any_head text.now 0 lines.old (length text.now) →
+        CoversBy words_of_any_head text.now 0 lines.new (length text.now) }
     ensures only { AreOrHeaded text.now (length counts.old) lines.old lines.new }
 {
     if are_in_order(text, lines, counts.len()) {

@@ -123,23 +123,30 @@ const REST = 150;
 
 type Workers = { calls: Calls; byHand: Calls; list: Calls; finders: Calls[] };
 
+/** What is made ready: `reached` by the line so far, and `isBare` if no scramble is there yet. */
+type Wanted = { reached: string[]; isBare: boolean };
+
 export class Readiness {
   #timer = 0;
+  #wanted: Wanted | null = null;
 
-  constructor(private readonly workers: Workers) {}
+  constructor(private readonly workers: Workers) {
+    document.addEventListener("visibilitychange", () => this.begin(this.#wanted));
+  }
 
   stop() {
+    this.begin(null);
+  }
+
+  /** Begins in a moment, while the page is seen and doesn't wait for answers. */
+  begin(wanted: Wanted | null) {
     clearTimeout(this.#timer);
+    this.#wanted = wanted;
+    if (wanted === null || document.hidden) return;
+    this.#timer = setTimeout(() => (waitsForAnswers() ? this.begin(wanted) : this.#build(wanted)), REST);
   }
 
-  /** Begins in a moment, and not while the page waits for answers. @param isBare whether no scramble is there yet */
-  begin(reached: string[], isBare: boolean) {
-    this.stop();
-    const go = () => (waitsForAnswers() ? this.begin(reached, isBare) : this.#build(reached, isBare));
-    this.#timer = setTimeout(go, REST);
-  }
-
-  #build(reached: string[], isBare: boolean) {
+  #build({ reached, isBare }: Wanted) {
     const { calls, byHand, list, finders } = this.workers;
     byHand.ready(["eofb"]);
     list.ready(namesOf(openSteps(reached)));

@@ -18,7 +18,6 @@ use crate::path::TurnPath;
 use crate::tables::{Meter, Position, Tables};
 use niss_moves::{Token, Turn, allowed};
 use std::alloc::Allocator;
-use std::mem;
 
 /// The place of a turn in turn order, from 0.
 fn turn_place(turn: Turn) -> usize
@@ -138,7 +137,6 @@ impl<A: Allocator> Root<'_, A> {
         ensures spent { HasSpent B.is_cut (B.bound budget.now) self.now.tables.now meter.new result }
         ensures counted { IfOk result (λ count. meter.old + count ≤ meter.new) }
     {
-        let held = mem::replace(meter, Meter::new());
         let mut descent = Descent {
             path,
             sink,
@@ -148,11 +146,8 @@ impl<A: Allocator> Root<'_, A> {
             tables: self.tables,
             budget,
         };
-        let (counted, ended) = descent.pass(guide, self.position, after, held);
-        let solutions = descent.count;
-        *meter = counted;
-        ended?;
-        Ok(solutions)
+        let ended = descent.pass(guide, self.position, after, meter.take());
+        descent.finish(ended, meter)
     }
 }
 

@@ -7,7 +7,7 @@ ghost use Rattle.niss_search.specs.Budgets.{is_cut_in, HasSpent};
 ghost use Rattle.niss_search.specs.BothSides.{Pair, pair, HandsOut, fewest_normal, most_normal};
 ghost use Rattle.niss_search.specs.BothSides.{skips, leaves_out, pairs_with, least_pair_length, pair_solutions};
 ghost use Rattle.niss_search.specs.BothSides.{looks_with, pair_looks};
-ghost use Rattle.niss_search.specs.BothWalk.{part_of_lengths};
+ghost use Rattle.niss_search.specs.BothWalk.{HasSearched, MaySearch, part_of_length, part_of_lengths, part_of_search};
 ghost use Rattle.niss_search.specs.declared.searching.both.Ends.TheVariants.{Any};
 ghost use Rattle.niss_search.specs.declared.searching.both.Sides.TheVariants.{Both};
 
@@ -216,16 +216,12 @@ impl<A: Allocator> PairSearch<'_, A> {
     ) -> Result<Outcome, Stopped<K::Fault>>
         requires starts { IsTrue (may_start self.now.tables.now (map_of self.now.cube.now)) }
         requires any { self.now.ends ≡ Any }
-        requires budget { meter.old ≤ self.now.budget.bound }
-        requires bound { self.now.budget.bound ≤ 3 * 2 ^ 126 }
+        requires asked { MaySearch self.now.budget.bound meter.old }
         ensures length { IfOk result (λ o. o.length
             ≡ least_pair_length self.now.tables.now (map_of self.now.cube.now) self.now.sides lengths.limit) }
-        ensures solutions { HandsOut K.took K.refused
-            (pair_solutions self.now.tables.now (map_of self.now.cube.now) self.now.sides lengths.limit lengths.slack)
-            (pair_looks self.now.tables.now (map_of self.now.cube.now) self.now.sides lengths.limit lengths.slack)
-            meter.old meter.new sink.old sink.new is_cut_in self.now.budget.bound (λ o. o.solutions) result }
-        ensures within { meter.new ≤ self.now.budget.bound }
-        ensures spent { HasSpent is_cut_in self.now.budget.bound self.now.tables.now meter.new result }
+        ensures searched { HasSearched K.took K.refused self.now.budget.bound self.now.tables.now (λ o. o.solutions)
+            (part_of_search self.now.tables.now (map_of self.now.cube.now) self.now.sides lengths.limit lengths.slack) 0
+            meter.old meter.new sink.old sink.new result }
         ensures limit { lengths.limit ≤ 20 }
     {
         let mut least = None;
@@ -252,15 +248,10 @@ impl<A: Allocator> PairSearch<'_, A> {
     ) -> Result<u128, Stopped<K::Fault>>
         requires starts { IsTrue (may_start self.now.tables.now (map_of self.now.cube.now)) }
         requires few { length ≤ 20 }
-        requires budget { meter.old ≤ self.now.budget.bound }
-        requires bound { self.now.budget.bound ≤ 3 * 2 ^ 126 }
-        ensures solutions { HandsOut K.took K.refused
-            (pairs_with self.now.tables.now (map_of self.now.cube.now) self.now.ends self.now.sides length)
-            (looks_with self.now.tables.now (map_of self.now.cube.now) self.now.ends self.now.sides length)
-            meter.old meter.new sink.old sink.new is_cut_in self.now.budget.bound (λ count. count) result }
-        ensures counted { IfOk result (λ count. meter.old + count ≤ meter.new) }
-        ensures within { meter.new ≤ self.now.budget.bound }
-        ensures spent { HasSpent is_cut_in self.now.budget.bound self.now.tables.now meter.new result }
+        requires asked { MaySearch self.now.budget.bound meter.old }
+        ensures { HasSearched K.took K.refused self.now.budget.bound self.now.tables.now (λ count. count)
+            (part_of_length self.now.ends self.now.tables.now (map_of self.now.cube.now) self.now.sides length) 0
+            meter.old meter.new sink.old sink.new result }
     {
         idle_turns_leave_steps();
         let mut count = 0;
@@ -280,15 +271,10 @@ impl<A: Allocator> PairSearch<'_, A> {
     ) -> Result<u128, Stopped<K::Fault>>
         requires starts { IsTrue (may_start self.now.tables.now (map_of self.now.cube.now)) }
         requires few { normal + inverse ≤ 20 }
-        requires budget { meter.old ≤ self.now.budget.bound }
-        requires bound { self.now.budget.bound ≤ 3 * 2 ^ 126 }
-        ensures solutions { HandsOut K.took K.refused
-            (part_of_lengths self.now.ends self.now.tables.now (map_of self.now.cube.now) normal inverse).pairs
-            (part_of_lengths self.now.ends self.now.tables.now (map_of self.now.cube.now) normal inverse).looks
-            meter.old meter.new sink.old sink.new is_cut_in self.now.budget.bound (λ count. count) result }
-        ensures counted { IfOk result (λ count. meter.old + count ≤ meter.new) }
-        ensures within { meter.new ≤ self.now.budget.bound }
-        ensures spent { HasSpent is_cut_in self.now.budget.bound self.now.tables.now meter.new result }
+        requires asked { MaySearch self.now.budget.bound meter.old }
+        ensures { HasSearched K.took K.refused self.now.budget.bound self.now.tables.now (λ count. count)
+            (part_of_lengths self.now.ends self.now.tables.now (map_of self.now.cube.now) normal inverse) 0
+            meter.old meter.new sink.old sink.new result }
     {
         let split = Split::of(normal, inverse);
         let walk = Walk {

@@ -3,7 +3,7 @@ ghost use Rattle.std.specs.Prelude.{◌≡◌, ◌+◌, ◌≤◌, ◌<◌, ◌^
 ghost use Rattle.niss_search.specs.Cubes.{IsPosition};
 ghost use Rattle.niss_search.specs.Positions.{distance_at};
 ghost use Rattle.niss_search.specs.Budgets.{HasSpent};
-ghost use Rattle.niss_search.specs.Deepening.{below_at, beyond_at, MayMake, HasMade, Delivers, turns};
+ghost use Rattle.niss_search.specs.Deepening.{below_at, beyond_at, MayMake, HasMade, Delivers, found_by, turns};
 ghost use Rattle.niss_search.specs.Followers.{IsFollower, IsNextNear, AreFar};
 
 use super::Sink;
@@ -12,7 +12,6 @@ use crate::path::TurnPath;
 use crate::tables::{Follower, Kind, Meter, Position, SearchTables, StateSpace, Tables};
 use niss_moves::Turn;
 use std::alloc::{AllocError, Allocator};
-use std::mem;
 
 /// What guides a descent: the tables that say how far states are from the step, and how often it may look. It goes by
 /// value, as the meter does: where the tables stand is then known in a register.
@@ -45,6 +44,18 @@ pub(super) struct Descent<'a, K> {
 }
 
 impl<K: Sink> Descent<'_, K> {
+    /// Puts the meter back at the end, and returns how much was found.
+    #[inline(always)]
+    pub fn finish<E>(&self, ended: (Meter, Result<(), E>), meter: &mut Meter) -> Result<u128, E>
+        ensures meter { meter.new ≡ ended.0 }
+        ensures found { result ≡ found_by self.now.count ended.1 }
+    {
+        let (after, said) = ended;
+        *meter = after;
+        said?;
+        Ok(self.count)
+    }
+
     /// Looks at the position of the path and, if the look allows, goes on below it with `left` turns more. Hands
     /// what it finds to the sink, and counts it.
     pub fn begin<A: Allocator, B: Budget<K::Fault>>(
@@ -226,18 +237,13 @@ pub(super) fn descend_from<S: StateSpace, K: Sink, B: Budget<K::Fault>>(
     ensures counted { IfOk result (λ count. meter.old + count ≤ meter.new + 1) }
 {
     let length = path.limit().get();
-    // by value, as the descent takes it: what stands in its place meanwhile never ticks
-    let held = mem::replace(meter, Meter::new());
     let mut descent = Descent {
         path,
         sink,
         count: 0,
     };
-    let (after, ended) = descent.extend(guide, state, length, held);
-    let solutions = descent.count;
-    *meter = after;
-    ended?;
-    Ok(solutions)
+    let ended = descent.extend(guide, state, length, meter.take());
+    descent.finish(ended, meter)
 }
 
 /// Looks at the state after each turn, up to the first after which the look allows `left` turns more; returns its

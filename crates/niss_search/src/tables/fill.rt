@@ -11,7 +11,6 @@ use super::pruning_table::GOAL_ENTRY;
 use crate::laws::entries_turn;
 use crate::path::Limit;
 use crate::scan::next_at;
-use std::mem;
 
 /// A row of a pruning table. Where the turns lead it is looked up once, for all its entries.
 #[derive(Drop)]
@@ -111,7 +110,7 @@ pub(super) fn fill_table<M: GoalMoves>(moves: &M, distances: &mut [u8], meter: &
 {
     entries_turn();
     // the meter is held by value meanwhile: through the borrow each tick would be written to memory
-    let mut held = mem::replace(meter, Meter::new());
+    let mut held = meter.take();
     for level in 0..Limit::MOST {
         if !extend_level(moves, distances, level, &mut held) {
             // no entry is further than a level that none has

@@ -1,5 +1,6 @@
 //! The counter of turns tried and of looks.
 use std::marker::Model;
+use std::mem;
 
 /// A counter, 0 at first, of the turns that a fill tried and of the looks at positions. Only a fill and a look tick it.
 #[derive(Debug, Drop)]
@@ -30,6 +31,14 @@ impl Meter {
         ensures { result ≡ self.now }
     {
         self.ticks
+    }
+
+    /// Takes the meter by value: what stands in its place is at 0.
+    pub(crate) fn take(&mut self) -> Meter
+        ensures value { result ≡ self.old }
+        ensures empty { self.new ≡ 0 }
+    {
+        mem::replace(self, Meter::new())
     }
 
     /// Adds one.

@@ -4,6 +4,7 @@ ghost use Rattle.std.specs.List.{range_with_len};
 ghost use Rattle.niss_cube.specs.Coordinates.{rank_places};
 ghost use Rattle.niss_cube.specs.Inverses.{AreDigits, AreFour, counted_back, twist_digits, flip_digits, slice_places, slice_bit, slice_mask};
 
+use super::renaming::{FLIPS_ABOUT_X, FLIPS_ABOUT_Y, TWISTS_ABOUT_X, TWISTS_ABOUT_Z};
 use niss_moves::Axis;
 
 /// How the orientations of the cubies of one kind make a rank on an axis.
@@ -21,22 +22,22 @@ pub const TWISTS_ON_UD: RankDigits<8> = RankDigits {
 };
 
 pub const TWISTS_ON_RL: RankDigits<8> = RankDigits {
-    inward: [1, 2, 1, 2, 2, 1, 2, 1],
+    inward: TWISTS_ABOUT_Z,
     weights: [243, 3, 1, 81, 729, 9, 0, 27],
 };
 
 pub const TWISTS_ON_FB: RankDigits<8> = RankDigits {
-    inward: [2, 1, 2, 1, 1, 2, 1, 2],
+    inward: TWISTS_ABOUT_X,
     weights: [27, 81, 1, 0, 729, 243, 3, 9],
 };
 
 pub const FLIPS_ON_UD: RankDigits<12> = RankDigits {
-    inward: [0, 1, 0, 1, 0, 1, 0, 1, 0, 0, 0, 0],
+    inward: FLIPS_ABOUT_X,
     weights: [4, 32, 2, 512, 0, 8, 1, 128, 64, 16, 256, 1024],
 };
 
 pub const FLIPS_ON_RL: RankDigits<12> = RankDigits {
-    inward: [0, 0, 0, 0, 0, 0, 0, 0, 1, 1, 1, 1],
+    inward: FLIPS_ABOUT_Y,
     weights: [512, 256, 128, 1024, 32, 16, 8, 64, 2, 1, 0, 4],
 };
 

@@ -68,10 +68,16 @@ const EDGES_BY_X: [u8; 12] = [8, 5, 9, 1, 11, 7, 10, 3, 4, 6, 2, 0];
 const EDGES_BY_X_COUNTER: [u8; 12] = [11, 3, 10, 7, 8, 1, 9, 5, 0, 2, 6, 4];
 
 /// The corner facelets on F and B, which come to U and D by `x` and by `x'`.
-const TWISTS_ABOUT_X: [u8; 8] = [2, 1, 2, 1, 1, 2, 1, 2];
+pub const TWISTS_ABOUT_X: [u8; 8] = [2, 1, 2, 1, 1, 2, 1, 2];
 
 /// The renamed first edge facelets, by `x` and by `x'`.
-const FLIPS_ABOUT_X: [u8; 12] = [0, 1, 0, 1, 0, 1, 0, 1, 0, 0, 0, 0];
+pub const FLIPS_ABOUT_X: [u8; 12] = [0, 1, 0, 1, 0, 1, 0, 1, 0, 0, 0, 0];
+
+/// The same by `y`.
+pub const FLIPS_ABOUT_Y: [u8; 12] = [0, 0, 0, 0, 0, 0, 0, 0, 1, 1, 1, 1];
+
+/// The corner facelets on R and L, which come to U and D by `z'`.
+pub const TWISTS_ABOUT_Z: [u8; 8] = [1, 2, 1, 2, 2, 1, 2, 1];
 
 pub const X_QUARTER: RenamingTable = RenamingTable {
     corners: RenamedPlaces {
@@ -108,7 +114,7 @@ pub const Y_QUARTER: RenamingTable = RenamingTable {
     edges: RenamedPlaces {
         from: [3, 0, 1, 2, 7, 4, 5, 6, 11, 8, 9, 10],
         to: [1, 2, 3, 0, 5, 6, 7, 4, 9, 10, 11, 8],
-        inward: [0, 0, 0, 0, 0, 0, 0, 0, 1, 1, 1, 1],
+        inward: FLIPS_ABOUT_Y,
     },
 };
 
@@ -116,7 +122,7 @@ pub const Z_COUNTER: RenamingTable = RenamingTable {
     corners: RenamedPlaces {
         from: [4, 0, 3, 7, 5, 1, 2, 6],
         to: [1, 5, 6, 2, 0, 4, 7, 3],
-        inward: [1, 2, 1, 2, 2, 1, 2, 1],
+        inward: TWISTS_ABOUT_Z,
     },
     edges: RenamedPlaces {
         from: [4, 8, 0, 11, 6, 9, 2, 10, 5, 1, 3, 7],

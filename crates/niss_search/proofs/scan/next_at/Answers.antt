@@ -2,14 +2,14 @@ use Rattle.niss_search.proofs.Words.{arith, ◌≡◌, ◌≢◌, ◌+◌, ◌-�
 use Rattle.niss_search.proofs.ScanLemmas.{told-block, joined}
 use Rattle.niss_search.proofs.scan.next_at.Goals as goal
 
-pub returns-then-place-lt32-clause-found : goal.returns-then-place-lt32-clause-found
-returns-then-place-lt32-clause-found c =
+pub returns-then-place-lt8-clause-found : goal.returns-then-place-lt8-clause-found
+returns-then-place-lt8-clause-found c =
     let inv = c.loop-block.invariant in
     let block = told-block c.args.table.now c.args.from c.loop-block.block-index c.loop-block.at _ c.args.level c.as_chunks.result.0.now c.requires inv.blocks c.loop-block-test.true inv.at c.first_in_block-place.ensures in
-    (omega arith, omega (arith, block.room), block.here c.if-place-lt32.true)
+    (omega arith, omega (arith, block.room), block.here c.if-place-lt8.true)
 
-pub returns-then-place-lt32-clause-least : goal.returns-then-place-lt32-clause-least
-returns-then-place-lt32-clause-least c =
+pub returns-then-place-lt8-clause-least : goal.returns-then-place-lt8-clause-least
+returns-then-place-lt8-clause-least c =
     let inv = c.loop-block.invariant in
     let block = told-block c.args.table.now c.args.from c.loop-block.block-index c.loop-block.at _ c.args.level c.as_chunks.result.0.now c.requires inv.blocks c.loop-block-test.true inv.at c.first_in_block-place.ensures in
     joined (λ k. slice_index c.args.table.now k ≢ c.args.level) c.args.from c.loop-block.at c.first_in_block-place.result inv.passed block.differ
@@ -22,7 +22,7 @@ loop-block-preserved c =
       blocks = inv.blocks;
       rest = inv.rest;
       at = omega arith;
-      passed = joined (λ k. slice_index c.args.table.now k ≢ c.args.level) c.args.from c.loop-block.at 32 inv.passed (λ k low high. block.differ k low (omega arith));
+      passed = joined (λ k. slice_index c.args.table.now k ≢ c.args.level) c.args.from c.loop-block.at 8 inv.passed (λ k low high. block.differ k low (omega arith));
     }
 
 pub loop-byte-preserved : goal.loop-byte-preserved

@@ -1,11 +1,11 @@
 //! The walk through the shorter sides of pairs, the heads, with a search of the other side after each for tails.
-ghost use Rattle.std.specs.Prelude.{◌≡◌, ◌+◌, ◌-◌, ◌*◌, ◌<◌, ◌≤◌, ◌^◌, ◌==◌, ◌&&◌, ◌||◌, ◌++◌, ◌∷◌, false, [], length, IsTrue, IfOk};
+ghost use Rattle.std.specs.Prelude.{◌≡◌, ◌+◌, ◌<◌, ◌≤◌, ◌==◌, ◌&&◌, ◌||◌, ◌++◌, ◌∷◌, false, [], length, IsTrue};
 ghost use Rattle.niss_moves.specs.Effects.{turned};
 ghost use Rattle.niss_cube.specs.Map.{map_of};
 ghost use Rattle.niss_cube.specs.Steps.{may_start};
-ghost use Rattle.niss_search.specs.Budgets.{is_cut_in, HasSpent};
-ghost use Rattle.niss_search.specs.BothSides.{HandsOut, skips};
-ghost use Rattle.niss_search.specs.BothWalk.{IsHere, IsTailAt, after_heads, after_head, ends_here};
+ghost use Rattle.niss_search.specs.BothSides.{skips};
+ghost use Rattle.niss_search.specs.BothWalk.{HasSearched, MaySearch, StandsAt, IsTailAt};
+ghost use Rattle.niss_search.specs.BothWalk.{done_after, done_below, ends_here, once_looked};
 ghost use Rattle.niss_search.specs.Followers.{IsFollower};
 ghost use Rattle.niss_search.specs.Positions.{distance_at};
 
@@ -19,7 +19,7 @@ use crate::searching::depth_first::{Guide, descend_from};
 use crate::tables::{Follower, Kind, Meter, SearchTables, StateSpace, Tables};
 use niss_cube::Cube;
 use niss_cube::laws::{inverse_has_steps, start_is_kept, steps_see_places};
-use niss_moves::Turn;
+use niss_moves::{Face, Power, Turn};
 use std::alloc::Allocator;
 
 /// A turn that a head goes on by, and how many come after it.
@@ -36,6 +36,14 @@ impl Next {
     {
         self.left == 0 && (ends.skips(self.follower.turn) || self.follower.is_idle)
     }
+}
+
+/// The last turn of a head, and the cube of its side before it. The turn is never made: the other side's state is read from
+/// the cube.
+#[derive(Clone, Copy)]
+struct LastTurn<'a> {
+    cube: &'a Cube,
+    turn: Turn,
 }
 
 /// A walk through heads on a side of a cube, with a search for tails of so many turns after each.
@@ -62,29 +70,32 @@ impl<A: Allocator> Walk<'_, A> {
     ) -> Result<u128, Stopped<K::Fault>>
         requires starts { IsTrue (may_start self.now.tables.now (map_of self.now.cube.now)) }
         requires few { head + self.now.tail ≤ 20 }
-        requires budget { meter.old ≤ self.now.budget.now.bound }
-        requires bound { self.now.budget.now.bound ≤ 3 * 2 ^ 126 }
-        ensures solutions { HandsOut K.took K.refused
-            (after_heads self.now.ends self.now.tables.now (map_of self.now.cube.now) self.now.side self.now.tail [] head).pairs
-            (after_heads self.now.ends self.now.tables.now (map_of self.now.cube.now) self.now.side self.now.tail [] head).looks
-            meter.old meter.new sink.old sink.new is_cut_in self.now.budget.now.bound (λ count. count) result }
-        ensures counted { IfOk result (λ count. meter.old + count ≤ meter.new) }
-        ensures within { meter.new ≤ self.now.budget.now.bound }
-        ensures spent { HasSpent is_cut_in self.now.budget.now.bound self.now.tables.now meter.new result }
+        requires asked { MaySearch self.now.budget.now.bound meter.old }
+        ensures { HasSearched K.took K.refused self.now.budget.now.bound self.now.tables.now (λ count. count)
+            (done_below self.now [] head) 0
+            meter.old meter.new sink.old sink.new result }
     {
-        let here = self.start();
+        tails_follow_heads();
+        steps_see_places();
+        let mut here = self.start();
         let mut path = TurnPath::new(Limit::new(head).unwrap());
         if head == 0 {
-            return self.search_at_once(&here, &path, meter, sink);
+            // a half turn is its own inverse: made now, it is the one that is still to be made
+            let turn = Turn {
+                face: Face::U,
+                power: Power::Half,
+            };
+            here.turn(turn);
+            let last = LastTurn { cube: &here, turn };
+            return self.search_other(last, &path, meter, sink);
         }
         self.go_on(&here, head, &mut path, meter, sink)
     }
 
     /// The cube of the head's side before any head.
     fn start(&self) -> Cube
-        requires starts { IsTrue (may_start self.now.tables.now (map_of self.now.cube.now)) }
-        ensures here { IsHere self.now.tables.now self.now.side (map_of self.now.cube.now) [] (map_of result) }
-        ensures starts { IsTrue (may_start self.now.tables.now (map_of result)) }
+        requires { IsTrue (may_start self.now.tables.now (map_of self.now.cube.now)) }
+        ensures { StandsAt self.now [] (map_of result) }
     {
         inverse_has_steps();
         match self.side {
@@ -104,23 +115,14 @@ impl<A: Allocator> Walk<'_, A> {
         sink: &mut K,
     ) -> Result<u128, Stopped<K::Fault>>
         requires some { 0 < left }
-        requires starts { IsTrue (may_start self.now.tables.now (map_of here.now)) }
-        requires here { IsHere self.now.tables.now self.now.side (map_of self.now.cube.now)
-            head.old.turns (map_of here.now) }
+        requires here { StandsAt self.now head.old.turns (map_of here.now) }
         requires few { self.now.tail ≤ 20 }
         requires room { length head.old.turns + left ≤ head.old.limit }
-        requires budget { meter.old ≤ self.now.budget.now.bound }
-        requires bound { self.now.budget.now.bound ≤ 3 * 2 ^ 126 }
+        requires asked { MaySearch self.now.budget.now.bound meter.old }
         ensures head { head.new ≡ head.old }
-        ensures solutions { HandsOut K.took K.refused
-            (after_heads self.now.ends self.now.tables.now (map_of self.now.cube.now) self.now.side self.now.tail
-            head.old.turns left).pairs
-            (after_heads self.now.ends self.now.tables.now (map_of self.now.cube.now) self.now.side self.now.tail
-            head.old.turns left).looks
-            meter.old meter.new sink.old sink.new is_cut_in self.now.budget.now.bound (λ count. count) result }
-        ensures counted { IfOk result (λ count. meter.old + count ≤ meter.new) }
-        ensures within { meter.new ≤ self.now.budget.now.bound }
-        ensures spent { HasSpent is_cut_in self.now.budget.now.bound self.now.tables.now meter.new result }
+        ensures searched { HasSearched K.took K.refused self.now.budget.now.bound self.now.tables.now (λ count. count)
+            (done_below self.now head.old.turns left) 0
+            meter.old meter.new sink.old sink.new result }
     {
         let mut count = 0;
         for follower in self.tables.turns_after(head.last()) {
@@ -145,23 +147,14 @@ impl<A: Allocator> Walk<'_, A> {
         sink: &mut K,
     ) -> Result<u128, Stopped<K::Fault>>
         requires follower { IsFollower self.now.tables.now next.follower }
-        requires starts { IsTrue (may_start self.now.tables.now (map_of here.now)) }
-        requires here { IsHere self.now.tables.now self.now.side (map_of self.now.cube.now)
-            head.old.turns (map_of here.now) }
+        requires here { StandsAt self.now head.old.turns (map_of here.now) }
         requires few { self.now.tail ≤ 20 }
         requires room { length head.old.turns + 1 + next.left ≤ head.old.limit }
-        requires budget { meter.old ≤ self.now.budget.now.bound }
-        requires bound { self.now.budget.now.bound ≤ 3 * 2 ^ 126 }
+        requires asked { MaySearch self.now.budget.now.bound meter.old }
         ensures head { head.new ≡ head.old }
-        ensures solutions { HandsOut K.took K.refused
-            (after_heads self.now.ends self.now.tables.now (map_of self.now.cube.now) self.now.side self.now.tail
-            (head.old.turns ++ next.follower.turn ∷ []) next.left).pairs
-            (after_heads self.now.ends self.now.tables.now (map_of self.now.cube.now) self.now.side self.now.tail
-            (head.old.turns ++ next.follower.turn ∷ []) next.left).looks
-            meter.old meter.new sink.old sink.new is_cut_in self.now.budget.now.bound (λ count. count) result }
-        ensures counted { IfOk result (λ count. meter.old + count ≤ meter.new) }
-        ensures within { meter.new ≤ self.now.budget.now.bound }
-        ensures spent { HasSpent is_cut_in self.now.budget.now.bound self.now.tables.now meter.new result }
+        ensures searched { HasSearched K.took K.refused self.now.budget.now.bound self.now.tables.now (λ count. count)
+            (done_below self.now (head.old.turns ++ next.follower.turn ∷ []) next.left) 0
+            meter.old meter.new sink.old sink.new result }
     {
         if next.is_end(self.ends) {
             return Ok(0);
@@ -185,28 +178,20 @@ impl<A: Allocator> Walk<'_, A> {
         meter: &mut Meter,
         sink: &mut K,
     ) -> Result<u128, Stopped<K::Fault>>
-        requires starts { IsTrue (may_start self.now.tables.now (λ q. turned next.follower.turn (map_of here.now q))) }
-        requires here { IsHere self.now.tables.now self.now.side (map_of self.now.cube.now)
-            head.old.turns (λ q. turned next.follower.turn (map_of here.now q)) }
+        requires here { StandsAt self.now head.old.turns (λ q. turned next.follower.turn (map_of here.now q)) }
         requires few { self.now.tail ≤ 20 }
         requires room { length head.old.turns + next.left ≤ head.old.limit }
         requires end { next.left ≡ 0 → ends_here self.now.ends self.now.tables.now head.old.turns ≡ false }
-        requires budget { meter.old ≤ self.now.budget.now.bound }
-        requires bound { self.now.budget.now.bound ≤ 3 * 2 ^ 126 }
+        requires asked { MaySearch self.now.budget.now.bound meter.old }
         ensures head { head.new ≡ head.old }
-        ensures solutions { HandsOut K.took K.refused
-            (after_heads self.now.ends self.now.tables.now (map_of self.now.cube.now) self.now.side self.now.tail
-            head.old.turns next.left).pairs
-            (after_heads self.now.ends self.now.tables.now (map_of self.now.cube.now) self.now.side self.now.tail
-            head.old.turns next.left).looks
-            meter.old meter.new sink.old sink.new is_cut_in self.now.budget.now.bound (λ count. count) result }
-        ensures counted { IfOk result (λ count. meter.old + count ≤ meter.new) }
-        ensures within { meter.new ≤ self.now.budget.now.bound }
-        ensures spent { HasSpent is_cut_in self.now.budget.now.bound self.now.tables.now meter.new result }
+        ensures searched { HasSearched K.took K.refused self.now.budget.now.bound self.now.tables.now (λ count. count)
+            (done_below self.now head.old.turns next.left) 0
+            meter.old meter.new sink.old sink.new result }
     {
         let turn = next.follower.turn;
         if next.left == 0 {
-            return self.search_after(here, turn, head, meter, sink);
+            let last = LastTurn { cube: here, turn };
+            return self.search_other(last, head, meter, sink);
         }
         steps_see_places();
         tails_follow_heads();
@@ -215,161 +200,82 @@ impl<A: Allocator> Walk<'_, A> {
         self.go_on(&after, next.left, head, meter, sink)
     }
 
-    /// Searches for tails after no turn.
-    fn search_at_once<K: PairSink>(
+    /// Searches the other side for tails after a head.
+    fn search_other<K: PairSink>(
         &self,
-        here: &Cube,
+        last: LastTurn<'_>,
         head: &TurnPath,
         meter: &mut Meter,
         sink: &mut K,
     ) -> Result<u128, Stopped<K::Fault>>
-        requires starts { IsTrue (may_start self.now.tables.now (map_of here.now)) }
-        requires here { IsHere self.now.tables.now self.now.side (map_of self.now.cube.now)
-            head.now.turns (map_of here.now) }
+        requires last { StandsAt self.now head.now.turns (λ q. turned last.turn (map_of last.cube.now q)) }
         requires few { self.now.tail ≤ 20 }
         requires end { ends_here self.now.ends self.now.tables.now head.now.turns ≡ false }
-        requires budget { meter.old ≤ self.now.budget.now.bound }
-        requires bound { self.now.budget.now.bound ≤ 3 * 2 ^ 126 }
-        ensures solutions { HandsOut K.took K.refused
-            (after_head self.now.ends self.now.tables.now (map_of self.now.cube.now) self.now.side self.now.tail head.now.turns).pairs
-            (after_head self.now.ends self.now.tables.now (map_of self.now.cube.now) self.now.side self.now.tail head.now.turns).looks
-            meter.old meter.new sink.old sink.new is_cut_in self.now.budget.now.bound (λ count. count) result }
-        ensures counted { IfOk result (λ count. meter.old + count ≤ meter.new) }
-        ensures within { meter.new ≤ self.now.budget.now.bound }
-        ensures spent { HasSpent is_cut_in self.now.budget.now.bound self.now.tables.now meter.new result }
+        requires asked { MaySearch self.now.budget.now.bound meter.old }
+        ensures { HasSearched K.took K.refused self.now.budget.now.bound self.now.tables.now (λ count. count)
+            (done_after self.now head.now.turns) 0
+            meter.old meter.new sink.old sink.new result }
     {
-        inverse_has_steps();
-        tails_follow_heads();
-        let position = self.tables.position(&here.inverse());
-        let budget = self.budget;
         match self.tables.kind() {
-            Kind::Edges(tables) => {
-                let state = tables.state(&position);
-                self.search_from(Guide { tables, budget }, state, head, meter, sink)
-            }
-            Kind::AnyEdges(tables) => {
-                let state = tables.state(&position);
-                self.search_from(Guide { tables, budget }, state, head, meter, sink)
-            }
-            Kind::Domino(tables) => {
-                let state = tables.state(&position);
-                self.search_from(Guide { tables, budget }, state, head, meter, sink)
-            }
-            Kind::EitherDomino(tables) => {
-                let state = tables.state(&position);
-                self.search_from(Guide { tables, budget }, state, head, meter, sink)
-            }
+            Kind::Edges(tables) => self.search_by_kind(tables, last, head, meter, sink),
+            Kind::AnyEdges(tables) => self.search_by_kind(tables, last, head, meter, sink),
+            Kind::Domino(tables) => self.search_by_kind(tables, last, head, meter, sink),
+            Kind::EitherDomino(tables) => self.search_by_kind(tables, last, head, meter, sink),
         }
     }
 
-    /// Searches for tails after a head by whose last turn the cube is still to be turned.
-    fn search_after<K: PairSink>(
-        &self,
-        here: &Cube,
-        turn: Turn,
-        head: &TurnPath,
-        meter: &mut Meter,
-        sink: &mut K,
-    ) -> Result<u128, Stopped<K::Fault>>
-        requires starts { IsTrue (may_start self.now.tables.now (λ q. turned turn (map_of here.now q))) }
-        requires here { IsHere self.now.tables.now self.now.side (map_of self.now.cube.now)
-            head.now.turns (λ q. turned turn (map_of here.now q)) }
-        requires few { self.now.tail ≤ 20 }
-        requires end { ends_here self.now.ends self.now.tables.now head.now.turns ≡ false }
-        requires budget { meter.old ≤ self.now.budget.now.bound }
-        requires bound { self.now.budget.now.bound ≤ 3 * 2 ^ 126 }
-        ensures solutions { HandsOut K.took K.refused
-            (after_head self.now.ends self.now.tables.now (map_of self.now.cube.now) self.now.side self.now.tail head.now.turns).pairs
-            (after_head self.now.ends self.now.tables.now (map_of self.now.cube.now) self.now.side self.now.tail head.now.turns).looks
-            meter.old meter.new sink.old sink.new is_cut_in self.now.budget.now.bound (λ count. count) result }
-        ensures counted { IfOk result (λ count. meter.old + count ≤ meter.new) }
-        ensures within { meter.new ≤ self.now.budget.now.bound }
-        ensures spent { HasSpent is_cut_in self.now.budget.now.bound self.now.tables.now meter.new result }
-    {
-        tails_follow_heads();
-        let budget = self.budget;
-        match self.tables.kind() {
-            Kind::Edges(tables) => {
-                let state = tables.inverse_after(here, turn);
-                self.search_from(Guide { tables, budget }, state, head, meter, sink)
-            }
-            Kind::AnyEdges(tables) => {
-                let state = tables.inverse_after(here, turn);
-                self.search_from(Guide { tables, budget }, state, head, meter, sink)
-            }
-            Kind::Domino(tables) => {
-                let state = tables.inverse_after(here, turn);
-                self.search_from(Guide { tables, budget }, state, head, meter, sink)
-            }
-            Kind::EitherDomino(tables) => {
-                let state = tables.inverse_after(here, turn);
-                self.search_from(Guide { tables, budget }, state, head, meter, sink)
-            }
-        }
-    }
-
-    /// Searches the other side, which has the state, exactly as deep as tails are long. Most states are too far, which the
-    /// first look shows: nothing is set up before it.
+    /// The same with tables of one kind, exactly as deep as tails are long. Most states are too far, which the first look
+    /// shows: nothing is set up before it.
     #[inline(always)]
-    fn search_from<S: StateSpace, K: PairSink>(
+    fn search_by_kind<S: StateSpace, K: PairSink>(
         &self,
-        guide: Guide<'_, SearchTables<S>, UpTo>,
-        state: S::State,
+        tables: &SearchTables<S>,
+        last: LastTurn<'_>,
         head: &TurnPath,
         meter: &mut Meter,
         sink: &mut K,
     ) -> Result<u128, Stopped<K::Fault>>
-        requires of_step { guide.tables.now.step ≡ self.now.tables.now }
-        requires tail { IsTailAt self.now.tables.now self.now.side (map_of self.now.cube.now)
-            head.now.turns (S.seen guide.tables.now.space state) }
+        requires of_step { tables.now.step ≡ self.now.tables.now }
+        requires last { StandsAt self.now head.now.turns (λ q. turned last.turn (map_of last.cube.now q)) }
         requires few { self.now.tail ≤ 20 }
         requires end { ends_here self.now.ends self.now.tables.now head.now.turns ≡ false }
-        requires budget { meter.old ≤ guide.budget.now.bound }
-        requires bound { guide.budget.now.bound ≤ 3 * 2 ^ 126 }
-        ensures solutions { HandsOut K.took K.refused
-            (after_head self.now.ends self.now.tables.now (map_of self.now.cube.now) self.now.side self.now.tail head.now.turns).pairs
-            (after_head self.now.ends self.now.tables.now (map_of self.now.cube.now) self.now.side self.now.tail head.now.turns).looks
-            meter.old meter.new sink.old sink.new is_cut_in guide.entry.budget.now.bound (λ count. count) result }
-        ensures counted { IfOk result (λ count. meter.old + count ≤ meter.new) }
-        ensures within { meter.new ≤ guide.entry.budget.now.bound }
-        ensures spent { HasSpent is_cut_in guide.entry.budget.now.bound self.now.tables.now meter.new result }
+        requires asked { MaySearch self.now.budget.now.bound meter.old }
+        ensures { HasSearched K.took K.refused self.now.budget.now.bound self.now.tables.now (λ count. count)
+            (done_after self.now head.now.turns) 0
+            meter.old meter.new sink.old sink.new result }
     {
         tails_follow_heads();
-        if meter.count() >= guide.budget.bound {
+        let state = tables.inverse_after(last.cube, last.turn);
+        if meter.count() >= self.budget.bound {
             return Err(Stopped::Cut);
         }
-        if guide.tables.look(state, meter) > self.tail {
+        if tables.look(state, meter) > self.tail {
             return Ok(0);
         }
-        self.search_near(guide, state, head, meter, sink)
+        self.search_near(tables, state, head, meter, sink)
     }
 
     /// The same once the state was looked at and is near enough: hands on the pairs.
     #[inline(never)]
     fn search_near<S: StateSpace, K: PairSink>(
         &self,
-        guide: Guide<'_, SearchTables<S>, UpTo>,
+        tables: &SearchTables<S>,
         state: S::State,
         head: &TurnPath,
         meter: &mut Meter,
         sink: &mut K,
     ) -> Result<u128, Stopped<K::Fault>>
-        requires of_step { guide.tables.now.step ≡ self.now.tables.now }
+        requires of_step { tables.now.step ≡ self.now.tables.now }
         requires tail { IsTailAt self.now.tables.now self.now.side (map_of self.now.cube.now)
-            head.now.turns (S.seen guide.tables.now.space state) }
-        requires near { distance_at self.now.tables.now (S.seen guide.tables.now.space state) ≤ self.now.tail }
+            head.now.turns (S.seen tables.now.space state) }
+        requires near { distance_at self.now.tables.now (S.seen tables.now.space state) ≤ self.now.tail }
         requires few { self.now.tail ≤ 20 }
         requires end { ends_here self.now.ends self.now.tables.now head.now.turns ≡ false }
         requires looked { 0 < meter.old }
-        requires budget { meter.old ≤ guide.budget.now.bound }
-        requires bound { guide.budget.now.bound ≤ 3 * 2 ^ 126 }
-        ensures solutions { HandsOut K.took K.refused
-            (after_head self.now.ends self.now.tables.now (map_of self.now.cube.now) self.now.side self.now.tail head.now.turns).pairs
-            ((after_head self.now.ends self.now.tables.now (map_of self.now.cube.now) self.now.side self.now.tail head.now.turns).looks - 1)
-            meter.old meter.new sink.old sink.new is_cut_in guide.entry.budget.now.bound (λ count. count) result }
-        ensures counted { IfOk result (λ count. meter.old + count ≤ meter.new + 1) }
-        ensures within { meter.new ≤ guide.entry.budget.now.bound }
-        ensures spent { HasSpent is_cut_in guide.entry.budget.now.bound self.now.tables.now meter.new result }
+        requires asked { MaySearch self.now.budget.now.bound meter.old }
+        ensures { HasSearched K.took K.refused self.now.budget.now.bound self.now.tables.now (λ count. count)
+            (once_looked (done_after self.now head.now.turns)) 1
+            meter.old meter.new sink.old sink.new result }
     {
         tails_follow_heads();
         let mut path = TurnPath::new(Limit::new(self.tail).unwrap());
@@ -381,6 +287,10 @@ impl<A: Allocator> Walk<'_, A> {
             side: self.side,
             sink,
             count: 0,
+        };
+        let guide = Guide {
+            tables,
+            budget: self.budget,
         };
         descend_from(guide, state, &mut path, meter, &mut joined)?;
         Ok(joined.count)

@@ -6,7 +6,7 @@ use Rattle.niss_text.specs.Groups.{AreBelow, IsFresh, Goes, is_that}
 use Rattle.niss_text.specs.declared.groups.Group.{Group}
 use Rattle.niss_text.specs.declared.line.Line.{Line}
 use Rattle.niss_text.proofs.ToldLemmas.{StandsAt, IsSeen, HasKind, SaysOf, is_told}
-use Rattle.niss_text.specs.Lines.{IsLine, IsTold, IsUnbroken, IsEnd, Covers, Counts, Takes, Remain, AreNumbered, Begins, BeginNumbered, end_size}
+use Rattle.niss_text.specs.Lines.{IsLine, IsTold, IsUnbroken, IsEnd, Covers, Counts, TakesBy, Remain, AreNumbered, Begins, BeginNumbered, end_size}
 use Rattle.niss_text.proofs.LineLemmas.{covers_next, counts_next, numbered_next, one_more, same_behind_line}
 use Rattle.niss_text.proofs.PassedLemmas.{remain_next}
 use Rattle.niss_text.proofs.TakesLemmas.{takes_next}
@@ -116,11 +116,11 @@ loop-at-preserved c =
           (subst (λ (ls : List TextLine). Covers text 0 (take (count + 1) ls) (now + whole)) (sym e)
           (covers_next text lines count now size whole told (omega (arith, room, same)) (inv.covers begun (omega (arith, room, same)))
           begins is (c.judged-told.ensures.ends ∙ c.told_line-told.ensures.ends) unbroken all ended));
-      takes = λ from first low begun room.
-          subst (λ (n : ℕ). Takes text from (slice_range c.put_line.new.lines first (count + 1)) n) there
-          (subst (λ (ls : List TextLine). Takes text from (slice_range ls first (count + 1)) (now + whole)) (sym e)
-          (takes_next text from first lines count now size whole told (omega (arith, low, inv.more)) (omega (arith, room, same))
-          (inv.takes from first low begun (omega (arith, room, same)))
+      takes = λ words from first low begun room.
+          subst (λ (n : ℕ). TakesBy words text from (slice_range c.put_line.new.lines first (count + 1)) n) there
+          (subst (λ (ls : List TextLine). TakesBy words text from (slice_range ls first (count + 1)) (now + whole)) (sym e)
+          (takes_next words text from first lines count now size whole told (omega (arith, low, inv.more)) (omega (arith, room, same))
+          (inv.takes words from first low begun (omega (arith, room, same)))
           begins is (c.judged-told.ensures.ends ∙ c.told_line-told.ensures.ends) unbroken all ended));
       kept = ap (λ v. take c.args.written v) e ∙ take-set-le c.args.written lines count told inv.more ∙ inv.kept;
       counts = λ begun. subst (λ (n : ℕ). Counts text 0 (count + 1) n) there

@@ -1,5 +1,5 @@
-use Rattle.std.proofs.Common.{◌≡◌, ℕ, ◌+◌, ◌-◌, ◌<◌, ◌≤◌, length, take, drop, slice_range, get_or}
-use Rattle.niss_text.specs.Lines.{Covers, Counts, Takes, Remain, AreNumbered, Begins, BeginNumbered}
+use Rattle.std.proofs.Common.{◌≡◌, ℕ, ◌+◌, ◌-◌, ◌<◌, ◌≤◌, List, length, take, drop, slice_range, get_or}
+use Rattle.niss_text.specs.Lines.{Covers, Counts, TakesBy, Remain, AreNumbered, Begins, BeginNumbered}
 use Rattle.niss_text.specs.Groups.{AreGrouped, AreBelow, IsFresh}
 use Rattle.niss_text.specs.declared.text_line.TextLine.{TextLine}
 use Rattle.niss_text.proofs.GroupedLines.{SoFar, IsLast}
@@ -11,8 +11,8 @@ invariant-loop-at l = record {
   more : l.written ≤ l.count;
   few : l.count ≤ l.begin + l.at;
   covers : Covers l.text 0 (take l.written l.initial.lines) l.begin → l.count ≤ length l.lines → Covers l.text 0 (take l.count l.lines) (l.begin + l.at);
-  takes : (from first : ℕ) → first ≤ l.written → Takes l.text from (slice_range l.initial.lines first l.written) l.begin → l.count ≤ length l.lines →
-      Takes l.text from (slice_range l.lines first l.count) (l.begin + l.at);
+  takes : (words : List (List ℕ)) (from first : ℕ) → first ≤ l.written → TakesBy words l.text from (slice_range l.initial.lines first l.written) l.begin →
+      l.count ≤ length l.lines → TakesBy words l.text from (slice_range l.lines first l.count) (l.begin + l.at);
   kept : take l.written l.lines ≡ take l.written l.initial.lines;
   counts : Counts l.text 0 l.written l.begin → Counts l.text 0 l.count (l.begin + l.at);
   remain : (all end : ℕ) → l.begin + l.attempt.length ≤ end → end ≤ length l.text → Remain l.text all l.written l.begin end →

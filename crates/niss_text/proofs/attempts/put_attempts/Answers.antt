@@ -18,8 +18,8 @@ loop-at-preserved c =
       more = omega (arith, inv.more, told.more.0);
       few = told.more.1;
       covers = λ begun room. told.covers (inv.covers begun (omega (arith, room, same, told.more.0))) room;
-      takes = λ from first low begun room. told.takes from first (omega (arith, low, inv.more))
-          (inv.takes from first low begun (omega (arith, room, same, told.more.0))) room;
+      takes = λ words from first low begun room. told.takes words from first (omega (arith, low, inv.more))
+          (inv.takes words from first low begun (omega (arith, room, same, told.more.0))) room;
       kept = fewer_kept c.put_attempt-more.new.lines c.loop-at.lines c.args.so_far.lines c.loop-at.count inv.more told.kept ∙ inv.kept;
       counts = λ begun. told.counts (inv.counts begun);
       remain = λ all begun. told.remain all c.args.end (grind (arith, common_steps)) c.requires.end (inv.remain all begun);

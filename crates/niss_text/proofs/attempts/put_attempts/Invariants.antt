@@ -1,5 +1,5 @@
-use Rattle.std.proofs.Common.{◌≡◌, ℕ, ◌-◌, ◌≤◌, length, take, drop, slice_range}
-use Rattle.niss_text.specs.Lines.{Covers, Counts, Takes, Remain, AreNumbered, Begins, BeginNumbered}
+use Rattle.std.proofs.Common.{◌≡◌, ℕ, ◌-◌, ◌≤◌, List, length, take, drop, slice_range}
+use Rattle.niss_text.specs.Lines.{Covers, Counts, TakesBy, Remain, AreNumbered, Begins, BeginNumbered}
 use Rattle.niss_text.specs.Groups.{AreGrouped, AreBelow}
 use Rattle.niss_text.proofs.attempts.put_attempts.Given as goal
 
@@ -11,8 +11,8 @@ invariant-loop-at l = record {
   more : l.fn.so_far.lines ≤ l.count;
   few : l.count ≤ l.at;
   covers : Covers l.text 0 (take l.fn.so_far.lines l.initial.lines) l.fn.so_far.at → l.count ≤ length l.lines → Covers l.text 0 (take l.count l.lines) l.at;
-  takes : (from first : ℕ) → first ≤ l.fn.so_far.lines → Takes l.text from (slice_range l.initial.lines first l.fn.so_far.lines) l.fn.so_far.at →
-      l.count ≤ length l.lines → Takes l.text from (slice_range l.lines first l.count) l.at;
+  takes : (words : List (List ℕ)) (from first : ℕ) → first ≤ l.fn.so_far.lines → TakesBy words l.text from (slice_range l.initial.lines first l.fn.so_far.lines) l.fn.so_far.at →
+      l.count ≤ length l.lines → TakesBy words l.text from (slice_range l.lines first l.count) l.at;
   kept : take l.fn.so_far.lines l.lines ≡ take l.fn.so_far.lines l.initial.lines;
   counts : Counts l.text 0 l.fn.so_far.lines l.fn.so_far.at → Counts l.text 0 l.count l.at;
   remain : (all : ℕ) → Remain l.text all l.fn.so_far.lines l.fn.so_far.at l.end → Remain l.text all l.count l.at l.end;

@@ -4,7 +4,8 @@ use Rattle.niss_text.specs.declared.known.KnownPart.{KnownPart}
 use Rattle.niss_text.specs.Known.{AreSaid, HasBody, HaveLines, HaveNames, IsName, PartsTake, have_numbers, number_of_name, scramble_with}
 use Rattle.niss_text.specs.declared.text_line.TextLine.{TextLine}
 use Rattle.niss_text.proofs.HeadsOfLines.{covers_heads}
-use Rattle.niss_text.specs.Lines.{Covers, HasNoneBetween, Takes}
+use Rattle.niss_text.specs.Kept.{words_of_any_head}
+use Rattle.niss_text.specs.Lines.{CoversBy, HasNoneBetween, Takes}
 use Rattle.niss_text.proofs.PartLemmas.{all_read, body_behind, slice_behind}
 use Rattle.niss_text.proofs.PassedLemmas.{between_on, none_between}
 use Rattle.niss_text.proofs.KnownLemmas.{lines_none}
@@ -35,8 +36,8 @@ loop-next-init c =
           (parts_none c.args.text.now c.args.lines.now 0));
       unread = λ far. record {
         place = 0;
-        before = subst (λ (n : ℕ). HasNoneBetween c.args.text.now n 0) (sym begin.0) (none_between c.args.text.now 0);
-        covers = subst (λ (n : ℕ). Covers c.args.text.now 0 (take n c.args.lines.now) (length c.args.text.now)) (omega arith) far;
+        before = subst (λ (n : ℕ). HasNoneBetween c.args.text.now n 0) (sym begin.0) (none_between words_of_any_head c.args.text.now 0);
+        covers = subst (λ (n : ℕ). CoversBy words_of_any_head c.args.text.now 0 (take n c.args.lines.now) (length c.args.text.now)) (omega arith) far;
         few = omega (arith, begin.1);
       };
       names = λ far more. subst (λ (n : ℕ). HaveNames c.args.text.now (take n c.args.parts.now)) (sym c.nothing-seen.ensures.none)
@@ -57,7 +58,7 @@ loop-next-preserved-then-is_something c =
     let rest : count ≤ length c.loop-next.lines = omega (arith, c.requires, inv.same) in
     let within : next + size ≤ count = omega (arith, first.fits, c.loop-next-test.true, rest) in
     let lines : List TextLine = slice_range c.loop-next.lines next count in
-    let body : Covers text 0 (take count c.args.lines.now) (length text) → HasBody text c.loop-next.seen.read.at size c.first_part-size.result.0 =
+    let body : CoversBy words_of_any_head text 0 (take count c.args.lines.now) (length text) → HasBody text c.loop-next.seen.read.at size c.first_part-size.result.0 =
     λ far.
     let unread = inv.unread far in
     body_behind text c.loop-next.seen.read.at unread.place size c.first_part-size.result.0 unread.before
@@ -77,8 +78,8 @@ loop-next-preserved-then-is_something c =
           let unread = inv.unread far in
           let few : c.with-seen.result.read.lines ≤ next + size = omega (arith, ends.1, unread.few) in record {
             place = c.first_part-size.result.0.end;
-            before = subst (λ n. HasNoneBetween text n c.first_part-size.result.0.end) (sym ends.0) (none_between text c.first_part-size.result.0.end);
-            covers = subst (λ (ls : List TextLine). Covers text c.first_part-size.result.0.end ls (length text))
+            before = subst (λ n. HasNoneBetween text n c.first_part-size.result.0.end) (sym ends.0) (none_between words_of_any_head text c.first_part-size.result.0.end);
+            covers = subst (λ (ls : List TextLine). CoversBy words_of_any_head text c.first_part-size.result.0.end ls (length text))
                 (slice_behind c.loop-next.lines c.with-seen.new.lines next size count within
                 (more_behind c.with-seen.new.lines c.loop-next.lines c.with-seen.result.read.lines (next + size) few told.behind))
                 (first.rest unread.place unread.covers);
@@ -114,7 +115,7 @@ loop-next-preserved c =
             place = c.first_part-size.result.0.end;
             before = between_on text c.loop-next.seen.read.at unread.place c.first_part-size.result.0.end unread.before
                 ((first.read unread.place unread.covers).nothing (sym c.is_something.ensures ∙ c.if-is_something.false));
-            covers = subst (λ (ls : List TextLine). Covers text c.first_part-size.result.0.end ls (length text))
+            covers = subst (λ (ls : List TextLine). CoversBy words_of_any_head text c.first_part-size.result.0.end ls (length text))
                 (slice_behind c.loop-next.lines c.loop-next.lines next size count within refl) (first.rest unread.place unread.covers);
             few = omega (arith, unread.few);
           };

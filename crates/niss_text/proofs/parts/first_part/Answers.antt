@@ -4,7 +4,8 @@ use Rattle.niss_text.specs.Known.{IsName, IsNamed}
 use Rattle.std.proofs.lemmas.List.Elements.{All-take}
 use Rattle.niss_text.proofs.HeadsOfLines.{name_of_lines}
 use Rattle.niss_text.proofs.NameLemmas.{named_none, heads_next, numbered_none}
-use Rattle.niss_text.specs.Lines.{Covers, end_size}
+use Rattle.niss_text.specs.Kept.{words_of_any_head}
+use Rattle.niss_text.specs.Lines.{CoversBy, end_size}
 use Rattle.niss_text.proofs.PartLemmas.{Begins, Further, Since, since_none, since_next, covers_rest, is_read}
 use Rattle.niss_text.proofs.PassedLemmas.{covers_order}
 use Rattle.niss_text.proofs.parts.first_part.Goals.{else-rest-lines-via-then-rest-lines+else-is_ended_by, else-rest-lines-via-else-rest-lines}
@@ -47,7 +48,8 @@ loop-line-preserved c =
           let line : TextLine = c.in-Some.line.now in
           let others : List TextLine = c.in-Some.others.now in
           let so_far = inv.read from far in
-          let here : Covers text so_far.0 (line ∷ others) (length text) = subst (λ (ls : List TextLine). Covers text so_far.0 ls (length text)) first so_far.1 in
+          let here : CoversBy words_of_any_head text so_far.0 (line ∷ others) (length text) =
+          subst (λ (ls : List TextLine). CoversBy words_of_any_head text so_far.0 ls (length text)) first so_far.1 in
           let further : Further c.loop-line.part c.with-part.result line = record {
             has = next.has;
             moves = next.moves;
@@ -94,5 +96,5 @@ returns-clause-rest c = λ from far.
     let text : List ℕ = c.args.text.now in
     let inv = c.loop-line.invariant in
     let so_far = inv.read from far in
-    subst (λ n. Covers text n (drop (length c.args.lines.now - length c.loop-line.rest.now) c.args.lines.now) (length text)) (sym (c.place_of.ensures text so_far.0 so_far.1))
-    (subst (λ (ls : List TextLine). Covers text so_far.0 ls (length text)) inv.rest so_far.1)
+    subst (λ n. CoversBy words_of_any_head text n (drop (length c.args.lines.now - length c.loop-line.rest.now) c.args.lines.now) (length text))
+    (sym (c.place_of.ensures text so_far.0 so_far.1)) (subst (λ (ls : List TextLine). CoversBy words_of_any_head text so_far.0 ls (length text)) inv.rest so_far.1)

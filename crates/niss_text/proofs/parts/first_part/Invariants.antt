@@ -1,6 +1,7 @@
 use Rattle.std.proofs.Common.{◌≡◌, ℕ, ◌≤◌, ◌-◌, false, length, take, drop}
 use Rattle.niss_text.specs.Known.{IsNamed, IsNumbered}
-use Rattle.niss_text.specs.Lines.{Covers}
+use Rattle.niss_text.specs.Kept.{words_of_any_head}
+use Rattle.niss_text.specs.Lines.{CoversBy}
 use Rattle.niss_text.proofs.PartLemmas.{Since}
 use Rattle.niss_text.proofs.parts.first_part.Given as goal
 
@@ -11,8 +12,8 @@ invariant-loop-line l = record {
   named : IsNamed (take (length l.lines - length l.rest) l.lines) l.part;
   numbered : IsNumbered l.text l.part;
   first : length l.rest ≡ length l.lines → l.part.has_moves ≡ false;
-  read : (from : ℕ) → Covers l.text from l.lines (length l.text) →
-      (at : ℕ) × Covers l.text at l.rest (length l.text) × Since l.text from (length l.lines - length l.rest) at l.part;
+  read : (from : ℕ) → CoversBy words_of_any_head l.text from l.lines (length l.text) →
+      (at : ℕ) × CoversBy words_of_any_head l.text at l.rest (length l.text) × Since l.text from (length l.lines - length l.rest) at l.part;
 }
 
 abbrev pub decreases-loop-line : goal.decreases-loop-line

@@ -3,6 +3,7 @@ use Rattle.niss_text.specs.declared.known.KnownPart.{KnownPart}
 use Rattle.niss_text.specs.declared.parts.Part.{Part}
 use Rattle.niss_text.specs.Known.{AreSaid, HaveNames, PartsTake, IsName, number_of_name, scramble_with}
 use Rattle.niss_text.proofs.LineLemmas.{fewer_kept, more_behind}
+use Rattle.niss_text.specs.Kept.{words_of_any_head}
 use Rattle.niss_text.specs.Lines.{HasNoneBetween, Remain, Takes}
 use Rattle.niss_text.proofs.HeadsOfLines.{all_next}
 use Rattle.niss_text.proofs.PartLemmas.{body_low}
@@ -62,8 +63,8 @@ returns-then-self-clause-takes c = λ most body far room.
     (takes_behind text c.args.lines.now n c.args.self.read.at c.args.part.now.body far
     (between_on text c.args.self.read.at c.args.part.now.begin c.args.part.now.body body.before body.heads)) in
     takes_first text c.put_attempts-read.new.lines c.put_attempts-read.result.lines c.put_attempts-read.result.at
-    (c.put_attempts-read.ensures.takes 0 0 (omega arith)
-    (c.put_solution-solution.ensures.takes 0 0 (omega arith) begun (omega (arith, room, c.put_attempts-read.ensures.more, c.put_attempts-read.auto.lines))) room)
+    (c.put_attempts-read.ensures.takes words_of_any_head 0 0 (omega arith)
+    (c.put_solution-solution.ensures.takes words_of_any_head 0 0 (omega arith) begun (omega (arith, room, c.put_attempts-read.ensures.more, c.put_attempts-read.auto.lines))) room)
 
 pub returns-then-self-clause-ends : goal.returns-then-self-clause-ends
 returns-then-self-clause-ends c = λ most body.
@@ -97,8 +98,8 @@ returns-then-self-clause-told c = λ most body have far parts_room room.
     let begun : Takes text part.begin (slice_range c.args.lines.now n n) c.min-begin.result =
     takes_none text part.begin c.args.lines.now n c.min-begin.result (subst (λ (m : ℕ). HasNoneBetween text part.begin m) (sym begins) body.heads) in
     let takes : Takes text part.begin (slice_range c.put_attempts-read.new.lines n c.put_attempts-read.result.lines) c.put_attempts-read.result.at =
-    read.takes part.begin n solution.more
-    (solution.takes part.begin n (omega arith) begun (omega (arith, room, read.more, c.put_attempts-read.auto.lines))) room in
+    read.takes words_of_any_head part.begin n solution.more
+    (solution.takes words_of_any_head part.begin n (omega arith) begun (omega (arith, room, read.more, c.put_attempts-read.auto.lines))) room in
     let kept : take n c.put_attempts-read.new.lines ≡ take n c.args.lines.now =
     fewer_kept c.put_attempts-read.new.lines c.put_solution-solution.new.lines n c.put_solution-solution.result.lines solution.more read.kept ∙ solution.kept in
     subst (λ (ps : List KnownPart). PartsTake text c.put_attempts-read.new.lines 0 (take (count + 1) ps) c.put_attempts-read.result.at) (sym c.put_part.ensures)
@@ -117,8 +118,8 @@ returns-else-self-clause-takes c = λ most body far room.
     (takes_behind text c.args.lines.now n c.args.self.read.at c.args.part.now.body far
     (between_on text c.args.self.read.at c.args.part.now.begin c.args.part.now.body body.before body.heads)) in
     takes_first text c.put_attempts-read.new.lines c.put_attempts-read.result.lines c.put_attempts-read.result.at
-    (c.put_attempts-read.ensures.takes 0 0 (omega arith)
-    (c.put_solution-solution.ensures.takes 0 0 (omega arith) begun (omega (arith, room, c.put_attempts-read.ensures.more, c.put_attempts-read.auto.lines))) room)
+    (c.put_attempts-read.ensures.takes words_of_any_head 0 0 (omega arith)
+    (c.put_solution-solution.ensures.takes words_of_any_head 0 0 (omega arith) begun (omega (arith, room, c.put_attempts-read.ensures.more, c.put_attempts-read.auto.lines))) room)
 
 pub returns-else-self-clause-ends : goal.returns-else-self-clause-ends
 returns-else-self-clause-ends c = λ most body.
@@ -152,8 +153,8 @@ returns-else-self-clause-told c = λ most body have far parts_room room.
     let begun : Takes text part.begin (slice_range c.args.lines.now n n) c.min-begin.result =
     takes_none text part.begin c.args.lines.now n c.min-begin.result (subst (λ (m : ℕ). HasNoneBetween text part.begin m) (sym begins) body.heads) in
     let takes : Takes text part.begin (slice_range c.put_attempts-read.new.lines n c.put_attempts-read.result.lines) c.put_attempts-read.result.at =
-    read.takes part.begin n solution.more
-    (solution.takes part.begin n (omega arith) begun (omega (arith, room, read.more, c.put_attempts-read.auto.lines))) room in
+    read.takes words_of_any_head part.begin n solution.more
+    (solution.takes words_of_any_head part.begin n (omega arith) begun (omega (arith, room, read.more, c.put_attempts-read.auto.lines))) room in
     let kept : take n c.put_attempts-read.new.lines ≡ take n c.args.lines.now =
     fewer_kept c.put_attempts-read.new.lines c.put_solution-solution.new.lines n c.put_solution-solution.result.lines solution.more read.kept ∙ solution.kept in
     subst (λ (ps : List KnownPart). PartsTake text c.put_attempts-read.new.lines 0 (take (count + 1) ps) c.put_attempts-read.result.at) (sym c.put_part.ensures)

@@ -16,11 +16,11 @@ pub loop-at-preserved : goal.loop-at-preserved
 loop-at-preserved c =
     let now = c.loop-at in
     let text = c.args.self.now.text.now in
-    let it = c.or_headed.result in
-    let told = c.or_headed.ensures in
+    let it = c.or_headed-below.result.0 in
+    let told = c.or_headed-below.ensures in
     let was = now.invariant in record {
       same = length-set now.lines now.at it ∙ was.same;
-      counted = c.or_headed.auto.counts ∙ was.counted;
+      counted = c.or_headed-below.auto.counts ∙ was.counted;
       covers = λ far. covers_set text 0 now.lines (length text) now.at no_line it (was.covers far) told.line told.told told.end;
       only = headed_next text (length c.args.counts.now) (length now.counts) c.args.lines.now now.lines now.at no_line it c.loop-at-test.true was.counted
           was.only (λ d. was.rest now.at d (omega arith)) told.only;

@@ -1,15 +1,13 @@
-use Rattle.niss_search.proofs.Words.{◌+◌, ◌≤◌, ◌-◌, range_with_len, map_of}
-use Rattle.niss_search.proofs.BothLemmas.{part_of_split}
-use Rattle.niss_search.specs.BothSides.{HandedOut, fewest_normal}
+use Rattle.niss_search.proofs.Words.{◌≤◌, ◌-◌, range_with_len, map_of}
+use Rattle.niss_search.proofs.BothLemmas.{HasDone, part_of_split}
+use Rattle.niss_search.specs.BothSides.{fewest_normal}
 use Rattle.niss_search.specs.BothWalk.{parts}
 use Rattle.niss_search.proofs.searching.both.PairSearch.of_length.Given as goal
 
 abbrev pub invariant-loop-normal : goal.invariant-loop-normal
 invariant-loop-normal g l =
     let least = fewest_normal l.self.sides l.length in
-    let done = parts (part_of_split l.self.ends l.self.tables.now (map_of l.self.cube.now) l.length) (range_with_len least (l.normal - least)) in record {
+    let each = part_of_split l.self.ends l.self.tables.now (map_of l.self.cube.now) l.length in record {
       from : least ≤ l.normal;
-      within : l.meter ≤ l.self.budget.bound;
-      counted : l.fn.meter + l.count ≤ l.meter;
-      went : HandedOut g.K.PairSink.took g.K.PairSink.refused done.pairs done.looks l.fn.meter l.meter l.fn.sink l.sink l.count;
+      done : HasDone g.K.PairSink.took g.K.PairSink.refused l.self.budget.bound (parts each (range_with_len least (l.normal - least))) l.fn.meter l.meter l.fn.sink l.sink l.count;
     }

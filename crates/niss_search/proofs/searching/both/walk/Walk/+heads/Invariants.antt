@@ -1,6 +1,5 @@
-use Rattle.niss_search.proofs.Words.{◌≡◌, ◌+◌, ◌*◌, ◌≤◌, ◌-◌, take, map_of}
-use Rattle.niss_search.proofs.BothLemmas.{next_heads}
-use Rattle.niss_search.specs.BothSides.{HandedOut}
+use Rattle.niss_search.proofs.Words.{◌≡◌, ◌+◌, ◌*◌, ◌-◌, take, map_of}
+use Rattle.niss_search.proofs.BothLemmas.{HasDone, next_heads}
 use Rattle.niss_search.specs.BothWalk.{parts}
 use Rattle.niss_search.proofs.searching.both.walk.Walk.+heads.Given as goal
 
@@ -15,9 +14,7 @@ decreases-go_below g l = 3 * l.next.left + 1
 
 abbrev pub invariant-go_on-loop-follower : goal.invariant-go_on-loop-follower
 invariant-go_on-loop-follower g l =
-    let done = parts (next_heads l.self.ends l.self.tables.now (map_of l.self.cube.now) l.self.side l.self.tail l.fn.head.turns (l.left - 1)) (take l.follower-index l.follower-items) in record {
+    let each = next_heads l.self.ends l.self.tables.now (map_of l.self.cube.now) l.self.side l.self.tail l.fn.head.turns (l.left - 1) in record {
       head : l.head ≡ l.fn.head;
-      within : l.meter ≤ l.self.budget.now.bound;
-      counted : l.fn.meter + l.count ≤ l.meter;
-      went : HandedOut g.K.PairSink.took g.K.PairSink.refused done.pairs done.looks l.fn.meter l.meter l.fn.sink l.sink l.count;
+      done : HasDone g.K.PairSink.took g.K.PairSink.refused l.self.budget.now.bound (parts each (take l.follower-index l.follower-items)) l.fn.meter l.meter l.fn.sink l.sink l.count;
     }
