@@ -25,6 +25,7 @@ IN_LIST = "return document.activeElement.closest('#solutions-groups') !== null"
 NOTE = """const field = all('.note-field').find((each) => each.ariaLabel === `Note: ${arguments[0]}`);
     field.value = arguments[1];
     field.dispatchEvent(new Event('change'))"""
+SHOWN_CHIP = "return document.querySelector(arguments[0]).ariaCurrent === 'page'"
 INTO_VIEW = "document.querySelector(arguments[0]).scrollIntoView({ block: 'center', behavior: 'instant' })"
 
 
@@ -276,8 +277,9 @@ class Mean(Beside):
         self.sheet.hash = self.browser.hash()
 
     def returns(self, number: int) -> None:
-        """By a scramble's chip to all that was done with it."""
+        """By a scramble's chip to all that was done with it, once the page goes by the address, which changes before it does."""
         self.press(chip(number))
+        self.browser.settle(SHOWN_CHIP, chip(number))
         self.sheet = self.opened[number - 1]
         self.is_as_it_was(f"back at scramble {number}")
 

@@ -10,6 +10,8 @@ from tally import Tally
 # the place of the middle of what a selector finds
 MIDDLE = """const { left, top, width, height } = document.querySelector(arguments[0]).getBoundingClientRect();
     return [left + width / 2, top + height / 2]"""
+# a click comes of a tap by itself, once the touch is over
+CLICKED = "window.isTapped = false; addEventListener('click', () => { window.isTapped = true; }, { capture: true, once: true })"
 TOP = "return document.querySelector(arguments[0]).getBoundingClientRect().top"
 INTO_VIEW = "document.querySelector(arguments[0]).scrollIntoView({ block: arguments[1], behavior: 'instant' })"
 TWO_KEPT = "&kept=inverse.B_D_R_F2_B_D,normal.R-_U_F-_R_L;a_note"
@@ -23,11 +25,12 @@ TEXT = "R U F\nR // EO"
 
 
 def tap(browser: Browser, selector: str) -> bool:
-    """A finger on the middle of what a selector finds, if that is seen."""
+    """A finger on the middle of what a selector finds, if that is seen, until the click that comes of it."""
+    browser.script(CLICKED)
     x, y = browser.script(MIDDLE, selector)
     browser.command("Input.dispatchTouchEvent", type="touchStart", touchPoints=[{"x": x, "y": y}])
     browser.command("Input.dispatchTouchEvent", type="touchEnd", touchPoints=[])
-    return True
+    return browser.until("return window.isTapped !== false")
 
 
 def edit(browser: Browser, scroll: int) -> None:
