@@ -6,18 +6,26 @@
 #include "nissy.hpp"
 
 #include <iterator>
+#include <optional>
+#include <stdexcept>
 
 namespace nissy {
 
 // The solutions of a line's cube of at most `limit` turns that are at most `slack` turns longer than the shortest, by length and then in turn
-// order. It is gone through once, and neither copied nor moved:
+// order; with `after`, the moves of a solution at which one left off, only those after it. It is gone through once, and neither copied nor moved:
 //
 //     for (const nissy::solution &one : nissy::solutions(tables, line, 20, 4)) ..
+//
+// For `after` any sequence of turns of a face may stand; std::invalid_argument for other moves.
 class solutions {
 public:
-    solutions(const tables &by, std::string_view line, std::int64_t limit = 20, std::int64_t slack = 0)
+    solutions(const tables &by, std::string_view line, std::int64_t limit = 20, std::int64_t slack = 0,
+              std::optional<std::string_view> after = std::nullopt)
         : kept_(&detail::kept(by.step())), line_(line), limit_(detail::turns(limit, "limit")), slack_(detail::turns(slack, "slack")) {
-        take(nissy_solve(&kept_->second, detail::bytes(line), line.size(), limit_, slack_, AT_ONCE, NISSY_ALL, detail::bytes(out_), out_.size()));
+        if (after)
+            take_after(*after);
+        else
+            take(nissy_solve(&kept_->second, detail::bytes(line), line.size(), limit_, slack_, AT_ONCE, NISSY_ALL, detail::bytes(out_), out_.size()));
     }
     solutions(const solutions &) = delete;
     solutions &operator=(const solutions &) = delete;
@@ -70,7 +78,13 @@ private:
     static constexpr std::uint64_t AT_ONCE = 1000;
     static constexpr std::size_t MOST_OF_ONE = 65; // bytes of a solution
 
+    void take_after(std::string_view after) {
+        take(nissy_solve_after(&kept_->second, detail::bytes(std::string_view(line_)), line_.size(), detail::bytes(after), after.size(), limit_,
+                               slack_, AT_ONCE, NISSY_ALL, detail::bytes(out_), out_.size()));
+    }
+
     void take(const nissy_search_answer &answer) {
+        if (answer.status == NISSY_USAGE) throw std::invalid_argument("nissy: after isn't a sequence of turns of a face");
         detail::end_unless_read(answer.status, answer.fault, answer.column, kept_->first);
         piece_ = detail::solutions_of(std::string_view(out_).substr(0, answer.length), answer.solutions);
         at_ = 0;
@@ -79,9 +93,7 @@ private:
 
     void go_on() {
         if (++at_ < piece_.size() || !more_) return;
-        const std::string last = piece_.back().moves;
-        take(nissy_solve_after(&kept_->second, detail::bytes(std::string_view(line_)), line_.size(), detail::bytes(std::string_view(last)),
-                               last.size(), limit_, slack_, AT_ONCE, NISSY_ALL, detail::bytes(out_), out_.size()));
+        take_after(std::string(piece_.back().moves));
     }
 
     const detail::kept_tables::value_type *kept_;

@@ -7,7 +7,7 @@ from typing import Any, Dict, Iterable, Iterator, List, Optional, Tuple, Union, 
 
 from . import _library, _rooms
 from ._given import Partial, Progress, Step, Text, bytes_of, number_of
-from ._library import CUT, DONE, FAULT, NOT_START, ROOM, SEARCH_ANSWER
+from ._library import CUT, DONE, FAULT, NOT_START, ROOM, SEARCH_ANSWER, USAGE
 from ._lines import MOST_WORD, fault_of, fault_text, start_of
 from ._many import Asking, Piece, in_pieces, one_by_one
 from ._places import place_of
@@ -70,31 +70,33 @@ class _Search:
             raise Cut(counted(found[0].length if found else 0, len(found), found.nodes, True, True), found)
         return found
 
-    def pieces(self, limit: int, slack: int, data: bytes) -> Iterator[Solutions]:
-        """Yields the solutions of a line in pieces, each of those after the last one of the piece before."""
-        nodes, last = _NODES_OF_PIECE, None
+    def pieces(self, limit: int, slack: int, data: bytes, after: Optional[bytes]) -> Iterator[Solutions]:
+        """Yields the solutions of a line in pieces, each of those after the last one of the piece before, and the
+        first of those after the moves that are given, if any are."""
+        nodes, last = _NODES_OF_PIECE, after
         while True:
-            found = self._behind(last, (limit, slack, _MOST_OF_PIECE, nodes), data)
+            found = self._after(last, (limit, slack, _MOST_OF_PIECE, nodes), data)
             yield found
             if not found.more:
                 return
             # nothing was found before the cut
             nodes = _NODES_OF_PIECE if found else min(2 * nodes, MOST_WORD)
-            last = found[-1] if found else last
+            last = found[-1].encode() if found else last
 
-    def _behind(self, last: Optional[Solution], numbers: _Numbers, data: bytes) -> Solutions:
+    def _after(self, last: Optional[bytes], numbers: _Numbers, data: bytes) -> Solutions:
         """Returns the solutions of a line after one of them, or from the first on: no more
         than an ordinary room holds."""
         room = _rooms.take()
         if last is None:
             answer = _library.nissy_solve(self._tables, data, len(data), *numbers, room.address, room.size)
         else:
-            after = last.encode()
             answer = _library.nissy_solve_after(
-                self._tables, data, len(data), after, len(after), *numbers, room.address, room.size
+                self._tables, data, len(data), last, len(last), *numbers, room.address, room.size
             )
         out = room.memory[: answer.length]
         _rooms.put_back(room)
+        if answer.status == USAGE:
+            raise ValueError("after is no sequence of face turns")
         if answer.status and answer.status != CUT:
             raise self._fault(answer.status, answer.fault, answer.column, data)
         found = _solutions(out.decode("ascii"), answer.least)
@@ -223,12 +225,16 @@ def solve(
     return search.solve(numbers, partial, data) if sides is None else search.solve_on(sides, numbers, partial, data)
 
 
-def solutions(step: Step, line: Text, *, limit: int = 20, slack: int = 0) -> Iterator[Solution]:
-    """The solutions of a line one after another, those of `solve` in the same order. The library is asked for them in
-    pieces, so millions of them take no memory, and Ctrl-C is heard. Raises LineFault and StartFault as it is called."""
+def solutions(
+    step: Step, line: Text, *, limit: int = 20, slack: int = 0, after: Optional[Text] = None
+) -> Iterator[Solution]:
+    """The solutions of a line one after another, those of `solve` in the same order; with `after`, the solution at
+    which one left off, only those after it. The library is asked for them in pieces, so millions of them take no
+    memory, and Ctrl-C is heard. Raises LineFault and StartFault as it is called, and ValueError if `after` has other
+    moves than turns of a face."""
     search, data = _search(step), bytes_of(line, "the line")
     most_turns, longer = number_of(limit, "the limit", MOST_TURNS), number_of(slack, "the slack", MOST_TURNS)
-    pieces = search.pieces(most_turns, longer, data)
+    pieces = search.pieces(most_turns, longer, data, None if after is None else bytes_of(after, "after"))
     # the first piece tells what is wrong with the line
     return chain.from_iterable(chain((next(pieces),), pieces))
 

@@ -48,6 +48,11 @@ void solves(const nissy::tables &tables, const search_row &row) {
     std::vector<nissy::solution> each;
     for (const nissy::solution &one : nissy::solutions(tables, row.line, row.limit, row.slack)) each.push_back(one);
     holds(each == found, "one after another they are the same", row.line);
+    for (std::size_t at = 0; at < found.size(); at += 1 + found.size() / 3) {
+        std::vector<nissy::solution> left;
+        for (const nissy::solution &one : nissy::solutions(tables, row.line, row.limit, row.slack, found[at].moves)) left.push_back(one);
+        holds(left == decltype(left)(found.begin() + static_cast<std::ptrdiff_t>(at) + 1, found.end()), "those after one of them", row.line);
+    }
 }
 
 // What only these headers say of lines; what they read of drawn ones and of tests/calls.tsv is tried by tests/hosts.
@@ -136,6 +141,8 @@ void misuse_is_thrown() {
                                                   },
                                                   [&] { nissy::solutions(tables, "F", 20, number); }, [&] { nissy::best("R", "", number); }});
     }
+    for (const char *moves : {"(F)", "x", "M", "Fw", "q"})
+        throw_each<std::invalid_argument>("after", {[&] { nissy::solutions(tables, "F", 20, 0, moves); }});
     for (const std::uint64_t number : {std::uint64_t{10001}, std::uint64_t{0xffffffff}, std::uint64_t{1} << 32, (std::uint64_t{1} << 32) + 1})
         throw_each<std::out_of_range>("a length or a count", {[&] { nissy::scramble(1, 2, number); }, [&] { nissy::scrambles(1, 2, number, 1); },
                                                               [&] { nissy::scrambles(1, 2, 3, number); }});

@@ -91,6 +91,11 @@ def searches(tally: Tally) -> None:
             [(str(it), it.length, type(it)) for it in one_by_one],
             [(*pair, nissy.Solution) for pair in pairs],
         )
+        for at in {0, len(pairs) // 2, len(pairs) - 1} & set(range(len(pairs))):
+            left = untyped.solutions(
+                given[0], given[1], limit=(given + (20,))[2], slack=(given + (0, 0))[3], after=pairs[at][0]
+            )
+            tally.equal(f"those after solution {at + 1}", list(map(str, left)), [moves for moves, _ in pairs[at + 1 :]])
         for count in by_each_call("count", *given):
             length = pairs[0][1] if pairs else None
             tally.equal(
@@ -102,6 +107,12 @@ def searches(tally: Tally) -> None:
         (len(longer), nissy.solve("drud-eofb", "", 1, 1, 3), nissy.count("drud-eofb", "", 1, 1)[:2]),
         (11, longer[:3], (0, 11)),
     )
+    for moves in ("(F)", "x", "M", "Fw", "q"):
+        tally.says(
+            ValueError,
+            "after is no sequence of face turns",
+            lambda moves=moves: nissy.solutions("eofb", "F", after=moves),
+        )
     first = list(itertools.islice(nissy.solutions("eofb", "R U F", slack=9), 3))
     tally.equal("the first of very many", first, nissy.solve("eofb", "R U F", slack=9, most=3))
     tally.holds("many", sum(1 for _ in itertools.islice(nissy.solutions("eofb", "R U F", slack=5), 20_000)) == 20_000)

@@ -84,8 +84,17 @@ export async function tryEach(nissy) {
   for (const [step, line, options] of [["eo", "R U F2 L D R B", { slack: 3 }], ["eofb", "F", {}], ["eofb", "R", {}], ["drud-eofb", "R U", { slack: 2 }]]) {
     const all = await nissy.solve(step, line, options);
     same(`each of ${all.length} solutions`, await gone(step, line, options), [...all]);
+    for (const at of [0, all.length >> 1, all.length - 1].filter((each) => each >= 0)) {
+      same(`those after solution ${at + 1}`, await gone(step, line, { ...options, after: all[at].moves }), all.slice(at + 1));
+    }
   }
   same("none within the limit", await gone("eofb", "F", { limit: 0 }), []);
+  same("after turns that are no solution", await gone("eofb", "F", { after: "F" }), (await nissy.solve("eofb", "F")).slice(1));
+  same("after as many as there can be", await gone("eofb", "F", { after: "L R ".repeat(11) }), []);
+  for (const after of ["(F)", "x", "q"]) {
+    same(`after ${after}`, await thrown(() => gone("eofb", "F", { after })), ["RangeError", "the option after is no sequence of turns of a face"]);
+  }
+  same("after what is no text", await thrown(() => nissy.solutions("eofb", "F", { after: 3 })), ["TypeError", "the option after is neither a string nor a Uint8Array"]);
   const first = [];
   for await (const solution of nissy.solutions("eo", "R U F2 L D R B", { slack: 14 })) {
     first.push(solution);

@@ -14,6 +14,7 @@ import type { Followed, Stoppable } from "./signals.js";
 /** Whether calls end before they return, or promise what a worker, or one of a pool of them, tells. */
 export type When = "now" | "worker" | "pool";
 
+type After = { after?: Text | undefined };
 export type Answered<Time extends When, Value> = Time extends "now" ? Value : Promise<Value>;
 /** What a call may be given besides: later a signal, and of many lines in a pool what is told of the progress. */
 export type Besides<Time extends When> = Time extends "now" ? unknown : Stoppable;
@@ -47,9 +48,9 @@ export interface Calls<Time extends When> {
   solve<Name extends string, On extends Sides | undefined = undefined>(
     step: StepName<Name>, line: Text, options?: Wanted & OnSides<On> & Besides<Time>,
   ): Answered<Time, SolutionsOn<On>>;
-  /** The same one after another, so that there is no list of them. */
+  /** The same one after another, so that there is no list of them: all, or those after `after`, the moves of one. */
   solutions<Name extends string>(
-    step: StepName<Name>, line: Text, options?: Pick<Wanted, "limit" | "slack"> & Besides<Time>,
+    step: StepName<Name>, line: Text, options?: Pick<Wanted, "limit" | "slack"> & After & Besides<Time>,
   ): Listed<Time, Solution>;
   solveAll<Name extends string, Faults extends OnFaults = "value", On extends Sides | undefined = undefined>(
     step: StepName<Name>, lines: readonly Text[],

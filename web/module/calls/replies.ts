@@ -70,8 +70,9 @@ export function errorIn(reply: NoValue & { line?: number }, names: readonly stri
       return new RangeError(`the ${part || "line"} has more bytes than the engine reads`);
     case STATUS.room:
       return new RangeError("there are more solutions than there is room for: ask for fewer");
-    default:
-      return new Error(`the engine refused the call with status ${reply.status}`);
+    // the numbers are checked before
+    case STATUS.usage:
+      return new RangeError("the option after is no sequence of turns of a face");
   }
 }
 

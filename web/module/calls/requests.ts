@@ -15,7 +15,7 @@ export type Pair = { scramble: Text | null; solution: Text | null };
 type Bounds = { slack: number; most: number; nodes: number; cut: Telling };
 export type Search = Bounds & { step: string; line: Text; limit: number };
 /** `after`: the solution after which the list begins. */
-export type SolveRequest = Search & { call: "solve"; after?: string };
+export type SolveRequest = Search & { call: "solve"; after?: Text | undefined };
 export type OfEach = SolveRequest
   | Search & { call: "count" }
   | Search & { call: "solveSides"; sides: Sides }
@@ -135,11 +135,14 @@ export function listRequest(step: unknown, line: unknown, options: unknown = {})
   return { call: "solveSides", sides: sides as Sides, ...searchOf(step, line, options) };
 }
 
-/** The options of what is gone through one after another. */
-export const OF_SOLUTIONS = ["limit", "slack"];
+export const OF_SOLUTIONS = ["limit", "slack", "after"];
 
-export const solutionsRequest = (step: unknown, line: unknown, options: unknown = {}): SolveRequest =>
-  solveRequest(step, line, { limit: optionOf(options, "limit"), slack: optionOf(options, "slack") });
+const afterOf = (given: unknown) => (given === undefined ? given : takenLine(given, "the option after"));
+
+export const solutionsRequest = (step: unknown, line: unknown, options: unknown = {}): SolveRequest => ({
+  ...solveRequest(step, line, { limit: optionOf(options, "limit"), slack: optionOf(options, "slack") }),
+  after: afterOf(optionOf(options, "after")),
+});
 
 export const checkRequest = (scramble: unknown, solution: unknown): RequestOf<"check"> => ({
   call: "check",
