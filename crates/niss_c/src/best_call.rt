@@ -3,10 +3,10 @@
 ghost use Rattle.std.specs.Prelude.{◌≡◌, ◌≢◌, ◌≤◌, length};
 ghost use Rattle.niss_embed.specs.BestWays.{FindsBestWith, WritesLineAfter};
 ghost use Rattle.niss_embed.specs.TwoLines.{both_of};
-ghost use Rattle.niss_embed.specs.LineCalls.{status_number};
+ghost use Rattle.niss_lines.specs.LineCalls.{status_number};
 ghost use Rattle.niss_embed.specs.ListedSides.{ListsSidesWith};
 ghost use Rattle.niss_embed.specs.Memory.{memory};
-ghost use Rattle.niss_embed.specs.declared.answer.Status.TheVariants.{NoRoom};
+ghost use Rattle.niss_lines.specs.declared.answer.Status.TheVariants.{NoRoom};
 ghost use Rattle.niss_ways.specs.HeldTables.{AreTables};
 ghost use Rattle.niss_kept.specs.IsTable.{IsTable};
 

@@ -13,11 +13,10 @@ mod version;
 pub use attempt_call::nissy_check_attempts;
 pub use best_call::{nissy_best, nissy_line_after, nissy_solve_sides};
 pub use check_calls::{nissy_check, nissy_facts, nissy_facts_lines, nissy_solving_part};
-pub use niss_embed::{
-    Answer, AttemptCheck, AttemptsAnswer, AxisFacts, CheckAnswer, FactsAnswer, LineAfterAnswer,
-    LineAnswer, LinesAnswer, PartAnswer, SearchAnswer, WaysAnswer, WaysWanted,
-};
+pub use niss_attempts::{AttemptCheck, AttemptsAnswer, PartAnswer};
+pub use niss_embed::{Answer, LineAfterAnswer, LinesAnswer, SearchAnswer, WaysAnswer, WaysWanted};
 pub use niss_kept::Held;
+pub use niss_lines::{AxisFacts, CheckAnswer, FactsAnswer, LineAnswer};
 pub use niss_ways::{Part, SideTurns, Way};
 pub use reading_calls::{nissy_known_lines, nissy_plain, nissy_text_lines, nissy_text_moves};
 pub use run_call::nissy_run;

@@ -9,9 +9,10 @@ ghost use Rattle.niss_embed.specs.SolveAfter.{SolvesAfterWith};
 use niss_cube::Step;
 use niss_cube::laws::names_differ;
 use niss_embed::{
-    LinesAnswer, SearchAnswer, Status, Wanted, count_line, count_lines, solve_after, solve_line,
+    LinesAnswer, SearchAnswer, Wanted, count_line, count_lines, solve_after, solve_line,
 };
 use niss_kept::Held;
+use niss_lines::Status;
 use std::alloc::Global;
 
 /// Builds the tables of the step of this name, which stay, unless they are there already. `Done`: there are tables of

@@ -2,11 +2,11 @@
 //! called.
 ghost use Rattle.std.specs.Prelude.{◌≢◌, ◌≤◌, length};
 ghost use Rattle.niss_shell.specs.declared.command.Rewriting.TheVariants.{Invert, Unniss, Cleanup, Print};
-ghost use Rattle.niss_embed.specs.LineCalls.{status_number, Does, Rewrites, outcome_of_scramble, outcome_of_steps};
-ghost use Rattle.niss_embed.specs.LineCalls.{outcome_of_start, outcome_of_some, fault_text_of};
-ghost use Rattle.niss_embed.specs.declared.answer.Status.TheVariants.{NoRoom};
+ghost use Rattle.niss_lines.specs.LineCalls.{status_number, Does, Rewrites, outcome_of_scramble, outcome_of_steps};
+ghost use Rattle.niss_lines.specs.LineCalls.{outcome_of_start, outcome_of_some, fault_text_of};
+ghost use Rattle.niss_lines.specs.declared.answer.Status.TheVariants.{NoRoom};
 
-use niss_embed::{LineAnswer, fault_text, rewrite_line, scramble, start_name, step_names};
+use niss_lines::{LineAnswer, fault_text, rewrite_line, scramble, start_name, step_names};
 use niss_shell::Rewriting;
 
 /// Writes the inverse of a line's moves.

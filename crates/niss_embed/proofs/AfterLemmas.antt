@@ -33,7 +33,7 @@ use Rattle.niss_embed.specs.SolveAfter.{SolvesCubeAfter, SolvesAtAfter, SolvesAf
 use Rattle.niss_embed.specs.declared.line.search.CountedSolutions.{CountedSolutions}
 use Rattle.niss_embed.specs.declared.line.search.Refused.{Refused}
 use Rattle.niss_embed.specs.declared.line.search.SolutionLines.{SolutionLines}
-use Rattle.niss_embed.specs.declared.answer.Status.TheVariants as status
+use Rattle.niss_lines.specs.declared.answer.Status.TheVariants as status
 use Rattle.niss_embed.specs.declared.line.search.Wanted.{Wanted}
 use Rattle.niss_embed.specs.declared.line.search_answer.SearchAnswer.{SearchAnswer}
 use Rattle.niss_embed.proofs.RestLemmas.{stopped_by, cut_by}

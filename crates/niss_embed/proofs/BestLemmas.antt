@@ -8,8 +8,8 @@ use Rattle.niss_embed.specs.BestWays.{FindsWays, FindsAfter, Tells, nowhere_answ
 use Rattle.niss_embed.specs.TwoLines.{Both, StartsAfter}
 use Rattle.niss_embed.specs.BestWays.{WritesTurns, WritesLineAfter, unwritten_line}
 use Rattle.niss_embed.specs.Memory.{Memory}
-use Rattle.niss_embed.specs.LineCalls.{status_number}
-use Rattle.niss_embed.specs.declared.answer.Status.TheVariants.{Done, Cut}
+use Rattle.niss_lines.specs.LineCalls.{status_number}
+use Rattle.niss_lines.specs.declared.answer.Status.TheVariants.{Done, Cut}
 use Rattle.niss_embed.specs.declared.two_lines.ways_answer.LineAfterAnswer.{LineAfterAnswer}
 use Rattle.niss_embed.specs.declared.two_lines.Nowhere.{Nowhere}
 use Rattle.niss_embed.specs.declared.two_lines.ways_answer.WaysAnswer.{WaysAnswer}

@@ -11,11 +11,11 @@ use Rattle.niss_ways.specs.declared.way.Way.{Way}
 use Rattle.niss_ways.specs.declared.finding.FoundWays.{FoundWays}
 use Rattle.niss_ways.specs.declared.finding.Wish.{Wish}
 use Rattle.niss_shell.specs.Names.{Turn}
-use Rattle.niss_embed.specs.LineCalls.{status_number, Does, outcome_of_text}
+use Rattle.niss_lines.specs.LineCalls.{status_number, Does, outcome_of_text}
 use Rattle.niss_embed.specs.Memory.{Memory}
-use Rattle.niss_embed.specs.declared.answer.LineAnswer.{LineAnswer}
-use Rattle.niss_embed.specs.declared.answer.Status.{Status}
-use Rattle.niss_embed.specs.declared.answer.Status.TheVariants.{Done, Usage, Cut}
+use Rattle.niss_lines.specs.declared.answer.LineAnswer.{LineAnswer}
+use Rattle.niss_lines.specs.declared.answer.Status.{Status}
+use Rattle.niss_lines.specs.declared.answer.Status.TheVariants.{Done, Usage, Cut}
 use Rattle.niss_embed.specs.declared.two_lines.ways_answer.LineAfterAnswer.{LineAfterAnswer}
 use Rattle.niss_embed.specs.TwoLines.{Both, Stands, both_of, nowhere_status, nowhere_line, nowhere_fault, nowhere_column}
 use Rattle.niss_embed.specs.declared.two_lines.Nowhere.{Nowhere}

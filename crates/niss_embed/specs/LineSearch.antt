@@ -18,9 +18,9 @@ use Rattle.niss_shell.specs.declared.stop.LineFault.TheVariants.{Unread, NoStart
 use Rattle.niss_shell.specs.Words.{most_bytes, most_limit}
 use Rattle.niss_shell.specs.Output.{solution_line, start_cube}
 use Rattle.niss_embed.specs.Memory.{Memory, Puts}
-use Rattle.niss_embed.specs.LineCalls.{status_number, fault_number}
-use Rattle.niss_embed.specs.declared.answer.Status.{Status}
-use Rattle.niss_embed.specs.declared.answer.Status.TheVariants.{Done, Fault, Usage, Stopped, NoRoom, Cut}
+use Rattle.niss_lines.specs.LineCalls.{status_number, fault_number}
+use Rattle.niss_lines.specs.declared.answer.Status.{Status}
+use Rattle.niss_lines.specs.declared.answer.Status.TheVariants.{Done, Fault, Usage, Stopped, NoRoom, Cut}
 use Rattle.niss_embed.specs.declared.line.search.Bounds.{Bounds}
 use Rattle.niss_embed.specs.declared.line.search.Wanted.{Wanted}
 use Rattle.niss_embed.specs.declared.line.search_answer.SearchAnswer.{SearchAnswer}

@@ -12,11 +12,11 @@ use Rattle.niss_ways.specs.Truth.{Origin}
 use Rattle.niss_ways.specs.declared.listing.FoundSolutions.{FoundSolutions}
 use Rattle.niss_ways.specs.declared.listing.Listed.{Listed}
 use Rattle.niss_ways.specs.declared.way.Part.{Part}
-use Rattle.niss_embed.specs.LineCalls.{status_number}
+use Rattle.niss_lines.specs.LineCalls.{status_number}
 use Rattle.niss_embed.specs.TwoLines as two
 use Rattle.niss_embed.specs.TwoLines.{Stands, both_of, nowhere_status, nowhere_line, nowhere_fault, nowhere_column}
-use Rattle.niss_embed.specs.declared.answer.Status.{Status}
-use Rattle.niss_embed.specs.declared.answer.Status.TheVariants.{Done, Usage, Cut}
+use Rattle.niss_lines.specs.declared.answer.Status.{Status}
+use Rattle.niss_lines.specs.declared.answer.Status.TheVariants.{Done, Usage, Cut}
 use Rattle.niss_embed.specs.declared.two_lines.sides_answer.SidesAnswer.{SidesAnswer}
 use Rattle.niss_embed.specs.declared.two_lines.sides_answer.SidesWanted.{SidesWanted}
 use Rattle.niss_embed.specs.declared.two_lines.Nowhere.{Nowhere}

@@ -5,12 +5,12 @@ use Rattle.niss_shell.specs.Names.{Step}
 use Rattle.niss_shell.specs.Output.{line_with_bytes}
 use Rattle.niss_embed.specs.LineSearch.{CountsLine}
 use Rattle.niss_embed.specs.declared.line.search.Wanted.{Wanted}
-use Rattle.niss_embed.specs.LineFacts.{facts_of}
-use Rattle.niss_embed.specs.LineCalls.{status_number}
+use Rattle.niss_lines.specs.LineFacts.{facts_of}
+use Rattle.niss_lines.specs.LineCalls.{status_number}
 use Rattle.niss_embed.specs.declared.line.search_answer.SearchAnswer.{SearchAnswer}
-use Rattle.niss_embed.specs.declared.line.fact_answers.FactsAnswer.{FactsAnswer}
-use Rattle.niss_embed.specs.declared.line.fact_answers.LinesAnswer.{LinesAnswer}
-use Rattle.niss_embed.specs.declared.answer.Status.TheVariants.{Done, Usage}
+use Rattle.niss_lines.specs.declared.fact_answers.FactsAnswer.{FactsAnswer}
+use Rattle.niss_embed.specs.declared.line.many_lines.LinesAnswer.{LinesAnswer}
+use Rattle.niss_lines.specs.declared.answer.Status.TheVariants.{Done, Usage}
 
 -- the lines of a text, as the program reads them: those that a line feed ends, and what stands after the last one if it
 -- has a byte

@@ -16,9 +16,9 @@ use Rattle.niss_shell.specs.Output.{start_cube}
 use Rattle.niss_shell.specs.Words.{most_bytes, most_limit}
 use Rattle.niss_shell.specs.declared.stop.LineFault.{LineFault}
 use Rattle.niss_embed.specs.Memory.{Memory}
-use Rattle.niss_embed.specs.LineCalls.{status_number}
+use Rattle.niss_lines.specs.LineCalls.{status_number}
 use Rattle.niss_embed.specs.LineSearch.{Hands, Only, unsolved, all_found, looks_for_all, capped, number_of_fault, column_of_fault}
-use Rattle.niss_embed.specs.declared.answer.Status.TheVariants.{Fault, Usage, Stopped, Cut}
+use Rattle.niss_lines.specs.declared.answer.Status.TheVariants.{Fault, Usage, Stopped, Cut}
 use Rattle.niss_embed.specs.declared.line.search.Wanted.{Wanted}
 use Rattle.niss_embed.specs.declared.line.search_answer.SearchAnswer.{SearchAnswer}
 

@@ -11,9 +11,9 @@ use Rattle.niss_shell.specs.Words.{most_bytes}
 use Rattle.niss_ways.specs.Starts.{AreTooMany, IsAfter}
 use Rattle.niss_ways.specs.Truth.{Origin}
 use Rattle.niss_ways.specs.declared.start.Start.{Start}
-use Rattle.niss_embed.specs.LineCalls.{fault_number}
-use Rattle.niss_embed.specs.declared.answer.Status.{Status}
-use Rattle.niss_embed.specs.declared.answer.Status.TheVariants.{Fault, Stopped}
+use Rattle.niss_lines.specs.LineCalls.{fault_number}
+use Rattle.niss_lines.specs.declared.answer.Status.{Status}
+use Rattle.niss_lines.specs.declared.answer.Status.TheVariants.{Fault, Stopped}
 use Rattle.niss_embed.specs.declared.two_lines.Nowhere.{Nowhere}
 use Rattle.niss_embed.specs.declared.two_lines.Nowhere.TheVariants.{TooLong, Unread, TooMany, NoStart}
 

@@ -5,10 +5,26 @@ ghost use Rattle.niss_embed.specs.Names.{OutOfMemory};
 ghost use Rattle.niss_embed.specs.Memory.{memory};
 ghost use Rattle.niss_embed.specs.Run.{IsFirstWord, TakesWords, Answers, RunsBytes, RunsWords};
 
-use crate::answer::{Answer, Status};
 use crate::memory::{MemorySource, MemoryTarget, put};
+use niss_lines::Status;
 use niss_shell::{Meter, more_input_keeps_answers, run_in};
 use std::alloc::{AllocError, Allocator};
+
+/// What a run returns.
+#[repr(C)]
+#[derive(Clone, Copy, Debug, PartialEq, Eq)]
+pub struct Answer {
+    /// The exit status, from 0 to 3, as that of `nissy`.
+    pub status: u8,
+    /// The output is longer than its memory, which holds a beginning of it. The status is 3 then.
+    pub out_too_small: bool,
+    /// The error text is longer than its memory, which holds a beginning of it.
+    pub err_too_small: bool,
+    /// How many bytes of the output were written, from the beginning of its memory.
+    pub out_length: usize,
+    /// How many bytes of the error text were written, from the beginning of its memory.
+    pub err_length: usize,
+}
 
 /// The first word, and what is after it.
 fn first_word(bytes: &[u8]) -> Option<(&[u8], &[u8])>

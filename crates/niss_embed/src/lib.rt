@@ -12,8 +12,8 @@
 //! // `answer.status` is 0, and `out[..answer.out_length]` is `F2 U R'` and a line feed
 //! ```
 //!
-//! `solve_line` and `count_line` search for one line by tables that the caller keeps, and take no memory;
-//! `facts_of_line` and `check_line` need no tables, and `count_lines` and `facts_of_lines` answer each line of a text:
+//! `solve_line` and `count_line` search for one line by tables that the caller keeps, and take no memory; `count_lines` and
+//! `facts_of_lines` answer each line of a text, `best_ways` and `solve_sides` search over both sides:
 //!
 //! ```
 //! let wanted = Wanted { limit: 20, slack: 0, most: 10, most_nodes: 1_000_000 };
@@ -22,28 +22,15 @@
 //! ```
 #![tactic(auto)]
 
-mod answer;
-mod attempts;
 mod call;
-mod doubts;
 mod line;
 mod memory;
-mod steps;
-mod stretch;
 mod two_lines;
 
-pub use answer::{Answer, LineAnswer, Status};
-pub use attempts::checks::{AttemptCheck, Attempts, AttemptsAnswer, check_attempts};
-pub use attempts::judged::Judged;
-pub use attempts::known_parts::Known;
-pub use call::run_bytes;
-pub use line::fact_answers::{AxisFacts, CheckAnswer, FactsAnswer, LinesAnswer};
-pub use line::facts::{check_line, facts_of_line};
-pub use line::many_lines::{count_lines, facts_of_lines};
+pub use call::{Answer, run_bytes};
+pub use line::many_lines::{LinesAnswer, count_lines, facts_of_lines};
 pub use line::search::{Wanted, count_line, solve_after, solve_line};
 pub use line::search_answer::SearchAnswer;
-pub use line::texts::{fault_text, rewrite_line, scramble, start_name, step_names};
-pub use steps::parts::{PartAnswer, solving_part};
 pub use two_lines::best::{best_ways, line_after};
 pub use two_lines::sides::solve_sides;
 pub use two_lines::sides_answer::{SidesAnswer, SidesWanted};

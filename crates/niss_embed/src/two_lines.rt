@@ -9,8 +9,7 @@ pub(crate) mod sides;
 pub(crate) mod sides_answer;
 pub(crate) mod ways_answer;
 
-use crate::answer::{Status, fault_number};
-use crate::line::texts::read_by;
+use niss_lines::{Status, fault_number, read_by};
 use niss_moves::{LineReader, Niss, ReadFault};
 use niss_shell::MOST_BYTES;
 use niss_ways::Start;

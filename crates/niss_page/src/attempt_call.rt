@@ -1,13 +1,13 @@
 //! The call that checks the attempts of a text as solvers write it.
 ghost use Rattle.std.specs.Prelude.{◌≡◌, ◌≤◌, ◌*◌, ◌+◌, ◌&&◌, ◌==◌, ◌⊎◌, length, take, drop};
 ghost use Rattle.niss_text.specs.Moves.{most_bytes};
-ghost use Rattle.niss_embed.specs.Attempts.{ChecksAttempts, number_of_checks};
+ghost use Rattle.niss_attempts.specs.Attempts.{ChecksAttempts, number_of_checks};
 
-use niss_embed::{AttemptCheck, Attempts, AttemptsAnswer, Known, check_attempts};
+use niss_attempts::{AttemptCheck, Attempts, AttemptsAnswer, Known, check_attempts};
 use niss_text::{KnownPart, TextLine};
 
 /// Checks all attempts of a text by its lines, or its parts if it has only solutions of known scrambles, which end at
-/// these places, as `check_attempts` of `niss_embed`.
+/// these places, as `check_attempts` of `niss_attempts`.
 #[unsafe(no_mangle)]
 pub extern "C" fn nissy_check_attempts(
     text: &[u8],

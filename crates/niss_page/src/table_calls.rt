@@ -1,8 +1,8 @@
 //! The calls by the tables of a step, which are built once in memory that is lent for good, and are asked many times.
 ghost use Rattle.std.specs.Prelude.{◌≡◌, ◌≢◌};
 ghost use Rattle.niss_embed.specs.Memory.{memory};
-ghost use Rattle.niss_embed.specs.LineCalls.{status_number};
-ghost use Rattle.niss_embed.specs.declared.answer.Status.TheVariants.{Usage};
+ghost use Rattle.niss_lines.specs.LineCalls.{status_number};
+ghost use Rattle.niss_lines.specs.declared.answer.Status.TheVariants.{Usage};
 ghost use Rattle.niss_embed.specs.LineSearch.{Builds, SolvesWith, CountsWith, wanted};
 ghost use Rattle.niss_embed.specs.ManyLines.{CountsLinesWith};
 ghost use Rattle.niss_embed.specs.SolveAfter.{SolvesAfterWith};
@@ -11,8 +11,9 @@ use crate::held::Held;
 use crate::room::Room;
 use niss_cube::Step;
 use niss_embed::{
-    LinesAnswer, SearchAnswer, Status, Wanted, count_line, count_lines, solve_after, solve_line,
+    LinesAnswer, SearchAnswer, Wanted, count_line, count_lines, solve_after, solve_line,
 };
+use niss_lines::Status;
 use std::mem::replace;
 
 /// Builds the tables of the step of this name in two rooms, the small one of 256 bytes. `Done`: there are tables of

@@ -4,14 +4,24 @@ ghost use Rattle.std.specs.Prelude.{◌≡◌, ◌<◌, ◌≤◌, ◌-◌, ◌�
 ghost use Rattle.niss_embed.specs.LineSearch.{CountsLine};
 ghost use Rattle.niss_embed.specs.ManyLines.{text_lines, AnswersLines, TellsFacts, taken};
 
-use crate::answer::Status;
-use crate::line::fact_answers::{FactsAnswer, LinesAnswer};
-use crate::line::facts::facts_of_line;
 use crate::line::search::{Wanted, count_line};
 use crate::line::search_answer::SearchAnswer;
+use niss_lines::{FactsAnswer, Status, facts_of_line};
 use niss_search::Tables;
 use niss_shell::lines_are_cut;
 use std::alloc::Allocator;
+
+/// What a call on many lines returns, which puts an answer to each of them into a caller's room.
+#[repr(C)]
+#[derive(Clone, Copy, Debug, PartialEq, Eq)]
+pub struct LinesAnswer {
+    /// The number of `Done`, or of `Usage` if there are no tables.
+    pub status: u8,
+    /// How many lines were taken, and answers written.
+    pub lines: usize,
+    /// How many bytes of the text these lines are, with their line feeds.
+    pub bytes: usize,
+}
 
 /// What is asked of each line, and how it is answered.
 trait Question<T> {

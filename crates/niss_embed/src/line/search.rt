@@ -10,20 +10,19 @@ ghost use Rattle.niss_search.specs.LookNumbers.{found_within_of, look_number_of}
 ghost use Rattle.niss_shell.specs.Output.{solution_line, start_cube};
 ghost use Rattle.niss_shell.specs.Words.{most_bytes, most_limit};
 ghost use Rattle.niss_embed.specs.Memory.{memory};
-ghost use Rattle.niss_embed.specs.LineCalls.{status_number};
+ghost use Rattle.niss_lines.specs.LineCalls.{status_number};
 ghost use Rattle.niss_embed.specs.LineSearch.{most_of_line, lines_state, Takes, Refuses, capped, SolvesCube, is_cut};
 ghost use Rattle.niss_embed.specs.LineSearch.{SolvesLine, count_state, Counts, CountsNoMore, wanted_in};
-ghost use Rattle.niss_embed.specs.declared.answer.Status.TheVariants.{Done, NoRoom, Cut};
+ghost use Rattle.niss_lines.specs.declared.answer.Status.TheVariants.{Done, NoRoom, Cut};
 
 mod after;
 mod counting;
 
-use crate::answer::Status;
 use crate::line::search_answer::SearchAnswer;
-use crate::line::texts::read_by;
 use crate::memory::put;
 pub use after::solve_after;
 pub use counting::count_line;
+use niss_lines::{Status, read_by};
 use niss_moves::{LineReader, LineText, Turn};
 use niss_search::laws::first_is_least;
 use niss_search::{

@@ -1,9 +1,9 @@
 //! What a search on a line returns, in numbers.
 ghost use Rattle.std.specs.Prelude.{◌≡◌};
 ghost use Rattle.niss_embed.specs.LineSearch.{number_of_fault, column_of_fault, unsolved};
-ghost use Rattle.niss_embed.specs.declared.answer.Status.TheVariants.{Fault, Usage, Stopped};
+ghost use Rattle.niss_lines.specs.declared.answer.Status.TheVariants.{Fault, Usage, Stopped};
 
-use crate::answer::{Status, fault_number};
+use niss_lines::{Status, fault_number};
 use niss_shell::LineFault;
 
 /// What a search on one line returns, whether it hands its solutions out or counts them.

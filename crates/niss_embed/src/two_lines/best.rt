@@ -2,13 +2,13 @@
 ghost use Rattle.std.specs.Prelude.{◌≡◌, ◌≢◌, ◌≤◌, MatchOption, length};
 ghost use Rattle.niss_embed.specs.BestWays.{FindsBest, IsInRange, IsWish, Tells, WritesLineAfter, WritesTurns};
 ghost use Rattle.niss_embed.specs.TwoLines.{both_of};
-ghost use Rattle.niss_embed.specs.LineCalls.{enough_bytes, status_number};
+ghost use Rattle.niss_lines.specs.LineCalls.{enough_bytes, status_number};
 ghost use Rattle.niss_embed.specs.Memory.{memory};
-ghost use Rattle.niss_embed.specs.declared.answer.Status.TheVariants.{NoRoom};
+ghost use Rattle.niss_lines.specs.declared.answer.Status.TheVariants.{NoRoom};
 
-use crate::answer::{LineAnswer, Status};
 use crate::two_lines::ways_answer::{LineAfterAnswer, WaysAnswer, WaysWanted};
 use crate::two_lines::{Nowhere, start_after};
+use niss_lines::{LineAnswer, Status};
 use niss_moves::{LineText, put_faces};
 use niss_search::Limit;
 use niss_ways::{Axes, FoundWays, Start, Way, WayTables, Wish, find_ways};

@@ -2,9 +2,9 @@
 ghost use Rattle.std.specs.Prelude.{◌≡◌, ◌≢◌, ◌⊎◌, ◌<◌, ◌≤◌, MatchOption};
 ghost use Rattle.niss_embed.specs.ListedSides.{IsListing, NotListing, ListsSides, TellsSides, number_of_sides};
 
-use crate::answer::Status;
 use crate::two_lines::sides_answer::{SidesAnswer, SidesWanted};
 use crate::two_lines::{Nowhere, start_after};
+use niss_lines::Status;
 use niss_search::{Limit, Sides, Tables};
 use niss_ways::{FoundSolutions, Listed, Part, list_solutions};
 use std::alloc::Allocator;

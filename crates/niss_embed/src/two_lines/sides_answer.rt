@@ -1,10 +1,10 @@
 //! What is asked of a list over sides, and what it tells, in numbers.
 ghost use Rattle.std.specs.Prelude.{◌≡◌};
 ghost use Rattle.niss_embed.specs.ListedSides.{nowhere_sides, unlisted};
-ghost use Rattle.niss_embed.specs.declared.answer.Status.TheVariants.{Usage};
+ghost use Rattle.niss_lines.specs.declared.answer.Status.TheVariants.{Usage};
 
-use crate::answer::Status;
 use crate::two_lines::Nowhere;
+use niss_lines::Status;
 
 /// What is listed.
 #[repr(C)]

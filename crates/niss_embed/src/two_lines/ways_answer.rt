@@ -1,10 +1,10 @@
 //! What is asked of a search for the best ways on, and what it tells, in numbers.
 ghost use Rattle.std.specs.Prelude.{◌≡◌};
 ghost use Rattle.niss_embed.specs.BestWays.{unfound, nowhere_answer, unwritten_line, line_told};
-ghost use Rattle.niss_embed.specs.declared.answer.Status.TheVariants.{Usage};
+ghost use Rattle.niss_lines.specs.declared.answer.Status.TheVariants.{Usage};
 
-use crate::answer::{LineAnswer, Status};
 use crate::two_lines::Nowhere;
+use niss_lines::{LineAnswer, Status};
 
 /// What is looked for.
 #[repr(C)]

@@ -11,9 +11,8 @@ ghost use Rattle.niss_embed.specs.SolveAfter.{line_of_turns, Spells, SolvesCubeA
 ghost use Rattle.niss_embed.specs.SolveAfter.{looks_to_shortest};
 
 use super::{Bounds, CountedSolutions, SolutionLines, Wanted, begin, capped, status_of, was_cut};
-use crate::answer::Status;
 use crate::line::search_answer::SearchAnswer;
-use crate::line::texts::read_by;
+use niss_lines::{Status, read_by};
 use niss_moves::{Faces, LineReader, Niss, Token, Turn};
 use niss_search::laws::{after_is_rest, first_is_least, zero_is_no_turn};
 use niss_search::{Limit, Meter, Position, Stopped, Tables, TurnPath, search_after, search_within};

@@ -1,0 +1,12 @@
+use Rattle.std.proofs.Common.{◌≡◌, ◌+◌, ◌≤◌, length}
+use Rattle.niss_attempts.specs.ShownTurn.{steps_among}
+use Rattle.niss_attempts.proofs.doubts.shown_turn.count_steps.Given as goal
+
+abbrev pub invariant-loop-line : goal.invariant-loop-line
+invariant-loop-line l = record {
+  same : l.count + length (steps_among l.rest) ≡ length (steps_among l.lines);
+  few : l.count + length l.rest ≤ length l.lines;
+}
+
+abbrev pub decreases-loop-line : goal.decreases-loop-line
+decreases-loop-line l = length l.rest

@@ -1,0 +1,68 @@
+//! Which of the lines of a text are its attempts.
+ghost use Rattle.std.specs.Prelude.{◌≡◌, ◌≤◌, length};
+ghost use Rattle.std.specs.List.{list_any};
+ghost use Rattle.niss_text.specs.Moves.{is_wanted};
+ghost use Rattle.niss_text.specs.declared.moves.MovesOf.TheVariants.{Scramble};
+ghost use Rattle.niss_attempts.specs.Runs.{Alike, FindsRun};
+
+use crate::attempts::judged::Judged;
+use niss_text::TextLine;
+
+/// The kind of a line of a scramble, by the number of `niss_text`.
+const SCRAMBLE_LINE: u8 = 2;
+
+/// The lines of an attempt among others: which is the first one, and which the first after them.
+#[repr(C)]
+#[derive(Clone, Copy, Debug, PartialEq, Eq)]
+pub struct Run {
+    pub first: usize,
+    pub end: usize,
+}
+
+/// What is said of an attempt, and which lines these are.
+#[repr(C)]
+#[derive(Clone, Copy, Debug, PartialEq, Eq)]
+pub struct Placed {
+    pub lines: Run,
+    pub judged: Judged,
+}
+
+/// How many lines are of an attempt, up to the first one that isn't.
+fn alike(lines: &[TextLine], attempt: usize) -> usize
+    ensures are { Alike attempt result lines.now }
+    ensures few { result ≤ length lines.now }
+{
+    let mut count = 0;
+    let mut rest = lines;
+    while let Some((line, after)) = rest.split_first() {
+        if line.attempt != attempt {
+            return count;
+        }
+        count += 1;
+        rest = after;
+    }
+    count
+}
+
+/// Whether one of some lines is of a scramble.
+fn has_scramble(lines: &[TextLine]) -> bool
+    ensures { result ≡ list_any (is_wanted Scramble) lines.now }
+{
+    lines.iter().any(|line| line.kind == SCRAMBLE_LINE)
+}
+
+/// The first attempt with a scramble among lines from one of them on.
+pub(crate) fn next_run(lines: &[TextLine], from: usize) -> Option<Run>
+    requires { from ≤ length lines.now }
+    ensures { FindsRun lines.now from result }
+{
+    let mut first = from;
+    while let Some((line, others)) = lines[first..].split_first() {
+        let end = first + 1 + alike(others, line.attempt);
+        if has_scramble(&lines[first..end]) {
+            return Some(Run { first, end });
+        }
+        first = end;
+    }
+    None
+}

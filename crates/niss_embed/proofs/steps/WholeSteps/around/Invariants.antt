@@ -1,5 +1,0 @@
-use Rattle.niss_embed.specs.Corners.{IsAroundPart}
-use Rattle.niss_embed.proofs.steps.WholeSteps.around.Given as goal
-
-abbrev pub invariant-loop-step : goal.invariant-loop-step
-invariant-loop-step l = IsAroundPart l.self.scramble.now l.self.steps.now l.self.bounds.now l.step l.step l.around

@@ -1,6 +1,0 @@
-use Rattle.niss_embed.proofs.CornerLines.{reads_both}
-use Rattle.niss_embed.proofs.steps.corners.StepCorners.then.Goals as goal
-
-pub returns : goal.returns
-returns c bytes more =
-    reads_both c.args.self.now c.args.next.now _ bytes more c.then.ensures c.then-2.ensures c.then-3.ensures c.both.ensures c.either.ensures

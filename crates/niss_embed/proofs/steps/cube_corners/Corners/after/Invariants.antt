@@ -1,6 +1,0 @@
-use Rattle.std.proofs.Common.{take}
-use Rattle.niss_embed.specs.Corners.{Brings}
-use Rattle.niss_embed.proofs.steps.cube_corners.Corners.after.Given as goal
-
-abbrev pub invariant-loop-token : goal.invariant-loop-token
-invariant-loop-token l = Brings l.corners.to (take l.token-index l.tokens)
