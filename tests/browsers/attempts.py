@@ -16,6 +16,18 @@ ONE: tuple[tuple[str, str, str, list[str], str], ...] = (
     ("Inverse: (R U)", "Inverse: (R U)", "", [], "Left out: labels. Moves in brackets count as inverse moves."),
     ("Inverse: R U", "R U", "", [], "Left out: labels."),
 )
+# texts of which steps turn the whole cube: the line so far names the faces as they were at first. After x, U is what was F, B what was U; after
+# z2, each of U and D, R and L is the other; what is in brackets is undone at the end, as the cube is held then
+HELD = (
+    ("R U F D2 B\n\nB' D2 x // EO\nU' B' R' // DR", "B' D2 F' U' R'"),
+    ("R U F\n\nx // inspection\nU' B' R'", "F' U' R'"),
+    ("R U F\n\nz2 // inspection\nF' D' // EO\n(L2)\nR", "F' U' (R2) L"),
+    ("R U F\n\nx y // inspection\ny' x' U\nR", "U R"),
+    ("R U F\n\nD // EO\nM // slice\nU // after it", "D R L' B"),
+    ("R U F\n\nx (U)\nD", "(F) B"),
+    ("R U F\n\n(U x F)\nF", "(F B) F"),
+    ("R U F x\n\nU' B' R'", "F' U' R'"),
+)
 # what is said of the steps that are in doubt, by their places
 OF_STEPS = "return all('#line-list li').flatMap((each, at) => [...each.querySelectorAll('.doubt:not([hidden])')].map((one) => [at, one.textContent]))"
 PREMOVES = "premoves stand before the scramble, but are read after it: premoves R U are (U' R') in brackets"
@@ -77,6 +89,16 @@ def reads_one(tally: Tally, browser: Browser) -> None:
             ("comes", "bracketed", line, {}),
             ("comes", KEPT, kept, {"scramble=": scramble, "scramble-read": said, "scramble-fault": ""}),
         )
+
+
+def turns_the_cube(tally: Tally, browser: Browser) -> None:
+    """Steps after one that turns the whole cube are read as the cube is held by then, also those of a candidate."""
+    for text, line in HELD:
+        browser.open()
+        browser.walk(tally, f"{text!r}", ("script", PASTE, text, {}), ("comes", "bracketed", line, {}))
+    browser.open()
+    text = "R U F\n\nD // EO\n\nx // inspection\nU' B'"
+    browser.walk(tally, "a candidate", ("script", PASTE, text, {}), ("comes", KEPT, ["F' U'", "D"], {}))
 
 
 def goes_on_where_it_ended(tally: Tally, browser: Browser) -> None:

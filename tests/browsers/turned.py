@@ -80,12 +80,13 @@ def by_hand(tally: Tally, browser: Browser) -> None:
             ("comes", "bracketed", line, {}),
         )
     for typed, faces in (("R (x) U", "R U"), ("x (y)", ""), ("M (R y U) F", "R L' U (R U)"), ("R2 U ()", "R2 U")):
+        said = "" if typed == "R2 U ()" else READ.format(faces or "no moves")
         browser.walk(
             tally,
             "by hand",
             ("go", "#side=inverse", {}),
             ("submit", "own", typed, {}),
-            ("comes", "own=", "", {"bracketed": faces}),
+            ("comes", "own=", "", {"bracketed": faces, "own-read": said}),
         )
     for side, (typed, faces) in zip(reversed(SIDES), LINES):
         made = ("", faces) if side == "inverse" else (faces, "")

@@ -1,5 +1,6 @@
 // How lines are read, by the engine at hand: as it writes them, and only by face turns if they turn the whole cube.
-// Such turns, which it puts at the end, are left out, so that each letter names one face in all that follows.
+// Such turns, which it puts at the end, are left out there, so that each letter names one face; those of an attempt go on
+// in its next steps, which are named as the cube is held by then.
 import { NissyFault, type FaultParts } from "../../module/shared/faults.js";
 import { MOST_MOVES } from "../state/limits.js";
 import { SIDES, bracketed, joined, type Part, type Side } from "../shared/offered-steps.js";
@@ -11,10 +12,10 @@ import type { PlainLine } from "../../module/text/written.js";
 const FACE_TURNS = /^[UDRLFB2' ]*$/;
 
 function withoutTurns(cleaned: string) {
-  const line = cleaned.replace(/[xyz][2']?/g, "").replace(/ +/g, " ").replace(/\( /g, "(").replace(/ \)/g, ")");
+  const line = cleaned.replace(/ *[xyz][2']?/g, "");
   const count = line.match(/[UDRLFB]/g)?.length ?? 0;
   if (count > MOST_MOVES) throw new NissyFault(`more than ${MOST_MOVES} moves, as face turns`, {});
-  return line.replace(/\(\)/g, "").trim();
+  return line;
 }
 
 /** Cuts a line that was read into runs: what is in brackets goes on the inverse side.
@@ -48,29 +49,67 @@ export function readScramble(nissy: Nissy, text: string): ReadScramble {
   return { line, isTurned, written: isTurned ? line : plain.trim().replace(/ +/g, " ") };
 }
 
-/** Moves by hand as a step, those in brackets on the inverse side; none without moves. */
-export function readByHand(nissy: Nissy, { text, side }: { text: string; side: Side }): Part[] {
-  const line = FACE_TURNS.test(nissy.unniss(text)) ? text : withoutTurns(nissy.cleanup(text));
-  const runs = runsOf(line, text.includes("(") ? "normal" : side)
-    .map((run) => ({ side: run.side, moves: nissy.unniss(run.moves) }));
+/** How the cube is held on each side, by turns of the whole cube. */
+type Held = Record<Side, string>;
+
+const UPRIGHT: Held = { normal: "", inverse: "" };
+
+/** The moves of one side by turns of its faces, of a cube that is held so before them, and how it is held after them. */
+function byFaces(nissy: Nissy, held: string, moves: string) {
+  const whole = nissy.unniss(`${held} ${moves}`);
+  if (FACE_TURNS.test(whole)) return { moves: whole, held: "" };
+  const cleaned = nissy.cleanup(whole);
+  return { moves: withoutTurns(cleaned), held: cleaned.match(/[xyz][2']?/g)?.join(" ") ?? "" };
+}
+
+/** A line of moves, those in brackets on the inverse side, of a cube that is held so. */
+function readHeld(nissy: Nissy, { text, side }: { text: string; side: Side }, before: Held) {
+  nissy.unniss(text);
+  const held = { ...before };
+  const runs = runsOf(text, text.includes("(") ? "normal" : side).map((run) => {
+    const read = byFaces(nissy, held[run.side], run.moves);
+    held[run.side] = read.held;
+    return { side: run.side, moves: read.moves };
+  });
   const [normal, inverse] = SIDES.map((each) =>
     joined(...runs.filter((run) => run.side === each).map(({ moves }) => moves)));
-  return normal === "" && inverse === "" ? [] : [{ normal, inverse }];
+  return { part: { normal, inverse }, held };
+}
+
+/** Steps by the faces of the cube as it is held at first. What is in brackets is undone at the end, as it is held then. */
+function named(nissy: Nissy, parts: Part[], held: Held): Part[] {
+  const last = byFaces(nissy, held.normal, nissy.invert(held.inverse)).held;
+  if (last === "") return parts;
+  return parts.map(({ normal, inverse }) => ({ normal, inverse: byFaces(nissy, last, inverse).moves }));
+}
+
+/** Moves by hand as a step, those in brackets on the inverse side, none without moves; and whether they turn the whole
+ * cube, which is left out. */
+export function readByHand(nissy: Nissy, line: { text: string; side: Side }): { parts: Part[]; isTurned: boolean } {
+  const { part, held } = readHeld(nissy, line, UPRIGHT);
+  const parts = part.normal === "" && part.inverse === "" ? [] : [part];
+  return { parts, isTurned: SIDES.some((side) => held[side] !== "") };
 }
 
 export type Unread = { line: string; fault: FaultParts };
 
-/** The steps of some lines of text, up to the first that can't be read, and where in the text each of them begins. */
-function readAllByHand(nissy: Nissy, steps: PlainLine[]): { parts: Part[]; begins: number[]; unread: Unread | null } {
+/** The steps of some lines of text, of a cube that is held so, up to the first that can't be read, and where in the text
+ * each of them begins. */
+function readAllByHand(
+  nissy: Nissy, steps: PlainLine[], held: Held,
+): { parts: Part[]; begins: number[]; unread: Unread | null } {
   const [parts, begins]: [Part[], number[]] = [[], []];
   for (const each of steps) {
     const line = each.line.trim();
-    const read = readOrFault(() => readByHand(nissy, { text: line, side: "normal" }));
-    if ("fault" in read) return { parts, begins, unread: { line, ...read } };
-    parts.push(...read.value);
-    begins.push(...read.value.map(() => each.places[0]));
+    const read = readOrFault(() => readHeld(nissy, { text: line, side: "normal" }, held));
+    if ("fault" in read) return { parts: named(nissy, parts, held), begins, unread: { line, ...read } };
+    const { part } = read.value;
+    held = read.value.held;
+    if (part.normal === "" && part.inverse === "") continue;
+    parts.push(part);
+    begins.push(each.places[0]);
   }
-  return { parts, begins, unread: null };
+  return { parts: named(nissy, parts, held), begins, unread: null };
 }
 
 /** A text as solvers write it, and which of its attempts is meant; `copied`: what it was a copy of, before edits. */
@@ -79,9 +118,12 @@ export type Written = { text: string; at: number; copied?: Copied[] };
 /** The steps and the candidates of an attempt, the first line of it that can't be read, if any, what makes one doubt
  * how it was read, which step is in doubt, or -1, and what undoes that on the normal side. */
 export function readWritten(nissy: Nissy, { text, at }: Written) {
-  const { attempt: { steps, candidates }, doubt } = nissy.checkAttempts(text)[at];
-  const { parts, begins, unread } = readAllByHand(nissy, steps);
-  const read = candidates.map((each) => ({ note: each.note, ...readAllByHand(nissy, each.steps) }));
+  const { attempt: { scramble, steps, candidates }, doubt } = nissy.checkAttempts(text)[at];
+  const scrambled = readOrFault(() => byFaces(nissy, "", scramble.line));
+  // a scramble that can't be read is told of by itself
+  const held = { ...UPRIGHT, normal: "value" in scrambled ? scrambled.value.held : "" };
+  const { parts, begins, unread } = readAllByHand(nissy, steps, held);
+  const read = candidates.map((each) => ({ note: each.note, ...readAllByHand(nissy, each.steps, held) }));
   const doubted = begins.findIndex((begin) => text.slice(0, begin).split("\n").length === doubt?.place.line);
   // an address has no candidate without moves
   const kept = read.filter((each) => each.parts.length > 0);
@@ -97,7 +139,7 @@ export function readWritten(nissy: Nissy, { text, at }: Written) {
 
 function readSteps(nissy: Nissy, parts: Part[]): Part[] {
   nissy.unniss(bracketed(parts));
-  return parts.flatMap((part) => readByHand(nissy, { text: bracketed([part]), side: "normal" }));
+  return parts.flatMap((part) => readByHand(nissy, { text: bracketed([part]), side: "normal" }).parts);
 }
 
 /** A candidate of an address, read as its steps are; one that can't be read stays, and is said to be so. */

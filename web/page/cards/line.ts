@@ -8,7 +8,7 @@ import {
   sidesOf, statesOf, type Part, type Side,
 } from "../shared/offered-steps.js";
 import { withCases } from "../shared/passage.js";
-import { NO_STEP_AFTER_DR, showFault, wordsOfLeftOut } from "../shared/words.js";
+import { NO_STEP_AFTER_DR, showFault, wordsOfLeftOut, wordsOfTurns } from "../shared/words.js";
 import type { Calls } from "../shared/questions.js";
 import type { Reader } from "../shared/reader.js";
 import type { Walk } from "../answers/examine.js";
@@ -270,11 +270,12 @@ export class LineSoFar {
     const isStill = () => field.value === text && this.#parts === parts && field.isConnected;
     const plain = this.reader.plainLine(text);
     try {
-      const added = await this.calls.ask("readByHand", { text: plain.line, side });
+      const { parts: added, isTurned } = await this.calls.ask("readByHand", { text: plain.line, side });
       if (!isStill()) return;
       showFault(where, field, plain, null, text);
       use(added);
-      tell(part("own-read"), wordsOfLeftOut(plain.leftOut));
+      const words = [wordsOfLeftOut(plain.leftOut), isTurned ? wordsOfTurns(bracketed(added)) : ""];
+      tell(part("own-read"), words.filter(Boolean).join(" "));
     } catch (fault) {
       if (!isStill() || fault instanceof Stopped) return;
       showFault(where, field, plain, thrownError(fault), text);

@@ -6,7 +6,7 @@ import { sheetsIn, withoutAddresses, type NewSheet } from "../state/desk.js";
 import { areSaid, type Copied } from "../state/kept-lines.js";
 import { LONGEST_SCRAMBLE } from "../state/limits.js";
 import { areBeside, withoutMoving } from "../shared/view.js";
-import { showDoubt, showFault, unanswered, wordsOfLeftOut } from "../shared/words.js";
+import { showDoubt, showFault, unanswered, wordsOfLeftOut, wordsOfTurns } from "../shared/words.js";
 import type { Attempt, AttemptDoubt } from "../../module/text/attempts.js";
 import type { Keeping } from "./scrambles-on-desk.js";
 import type { Calls } from "../shared/questions.js";
@@ -20,7 +20,6 @@ export type ScrambleChange = Keeping & { isNew: boolean; fmc: Written | null; ot
 type ScrambleActs = { change: (scramble: string, change: ScrambleChange) => void; take: (sheets: NewSheet[]) => void };
 
 const PAUSE = 150;
-const TURNS_LEFT_OUT = "the turns of the whole cube are left out, so U stays the face that was U.";
 
 /** With the apostrophe that one types. */
 const asTyped = ({ line }: { line: string }): string => line.replace(/\u2019/g, "'");
@@ -99,7 +98,7 @@ export class ScrambleField {
     // of what is typed not after each sign
     if (fault) announceLater(part("scramble-fault").children[0].textContent);
     const sentences = [wordsOfLeftOut(this.#leftOut)].filter(Boolean);
-    if (read?.isTurned) sentences.push(`Read as ${read.line || "no moves"}: ${TURNS_LEFT_OUT}`);
+    if (read?.isTurned) sentences.push(wordsOfTurns(read.line));
     else if (read && plain.line.includes("(")) sentences.push("Moves in brackets count as inverse moves.");
     const words = sentences.join(" ");
     // what stays as it was isn't said again

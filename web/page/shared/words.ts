@@ -38,6 +38,10 @@ export function titleOfPage({ scramble, parts }: State) {
   return `${words.slice(0, MOST_SIGNS)}${words.length > MOST_SIGNS ? "…" : ""} – ${PAGE_NAME}`;
 }
 
+/** As what a line is read that turns the whole cube. */
+export const wordsOfTurns = (line: string) =>
+  `Read as ${line || "no moves"}: the turns of the whole cube are left out, so U stays the face that was U.`;
+
 export const wordsOfLeftOut = (leftOut: string[]) => (leftOut.length === 0 ? "" : `Left out: ${leftOut.join(", ")}.`);
 
 /** Why a step can't be listed, or "". */
