@@ -84,7 +84,7 @@ def by_hand(tally: Tally, browser: Browser) -> None:
         browser.walk(
             tally,
             "by hand",
-            ("go", "#side=inverse", {}),
+            ("go", "#scramble=F_R2&side=inverse", {}),
             ("submit", "own", typed, {}),
             ("comes", "own=", "", {"bracketed": faces, "own-read": said}),
         )
