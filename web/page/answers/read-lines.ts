@@ -1,6 +1,6 @@
 // How lines are read, by the engine at hand: as it writes them, and only by face turns if they turn the whole cube.
-// Such turns, which it puts at the end, are left out there, so that each letter names one face; those of an attempt go on
-// in its next steps, which are named as the cube is held by then.
+// Such turns, which it puts at the end, are left out there, so that each letter names one face; of an attempt the next
+// steps are read as the cube is held by then.
 import { NissyFault, type FaultParts } from "../../module/shared/faults.js";
 import { MOST_MOVES } from "../state/limits.js";
 import { SIDES, bracketed, joined, type Part, type Side } from "../shared/offered-steps.js";
@@ -54,7 +54,7 @@ type Held = Record<Side, string>;
 
 const UPRIGHT: Held = { normal: "", inverse: "" };
 
-/** The moves of one side by turns of its faces, of a cube that is held so before them, and how it is held after them. */
+/** The moves of one side by face turns, if the cube is held so before them, and how it is held after them. */
 function byFaces(nissy: Nissy, held: string, moves: string) {
   const whole = nissy.unniss(`${held} ${moves}`);
   if (FACE_TURNS.test(whole)) return { moves: whole, held: "" };
@@ -76,7 +76,7 @@ function readHeld(nissy: Nissy, { text, side }: { text: string; side: Side }, be
   return { part: { normal, inverse }, held };
 }
 
-/** Steps by the faces of the cube as it is held at first. What is in brackets is undone at the end, as it is held then. */
+/** Steps as the cube is held at first: what is in brackets is undone at the end, as it is held then. */
 function named(nissy: Nissy, parts: Part[], held: Held): Part[] {
   const last = byFaces(nissy, held.normal, nissy.invert(held.inverse)).held;
   if (last === "") return parts;
@@ -93,8 +93,8 @@ export function readByHand(nissy: Nissy, line: { text: string; side: Side }): { 
 
 export type Unread = { line: string; fault: FaultParts };
 
-/** The steps of some lines of text, of a cube that is held so, up to the first that can't be read, and where in the text
- * each of them begins. */
+/** The steps of some lines of text, if the cube is held so before them, up to the first that can't be read, and where in
+ * the text each of them begins. */
 function readAllByHand(
   nissy: Nissy, steps: PlainLine[], held: Held,
 ): { parts: Part[]; begins: number[]; unread: Unread | null } {
