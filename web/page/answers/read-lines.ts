@@ -93,8 +93,8 @@ export function readByHand(nissy: Nissy, line: { text: string; side: Side }): { 
 
 export type Unread = { line: string; fault: FaultParts };
 
-/** The steps of some lines of text, if the cube is held so before them, up to the first that can't be read, and where in
- * the text each of them begins. */
+/** The steps of some lines of text, of a cube that is held so, up to the first that can't be read, and where in the
+ * text each of them begins. */
 function readAllByHand(
   nissy: Nissy, steps: PlainLine[], held: Held,
 ): { parts: Part[]; begins: number[]; unread: Unread | null } {
