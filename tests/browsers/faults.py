@@ -156,7 +156,7 @@ def pasted_steps(tally: Tally, browser: Browser) -> None:
     notes = browser.script("return all('#kept-list .note-field').map((each) => each.value).sort()")
     tally.equal("with its notes", notes, ["", "a note"])
     labels = "Scramble: R' U' F\nEO: D R\nDR after it: (L2) F // note: no\nleave: U\n"
-    said = f"The steps of this text are read up to the line \u201cB R1 L\u201d: {ODD_MOVE.format('R1', 'R')}"
+    upto = f"The steps of this text are read up to the line \u201cB R1 L\u201d: {ODD_MOVE.format('R1', 'R')}"
     browser.walk(
         tally,
         "steps",
@@ -165,7 +165,7 @@ def pasted_steps(tally: Tally, browser: Browser) -> None:
         ("fill", "scramble", labels, {}),
         ("comes", "steps", 3, {"bracketed": "D R F (L2) U", "scramble-read": "Left out: “Scramble:”."}),
         ("fill", "scramble", "R U F2\nD // EO\nB R1 L // DR\nU F\n\nL2\n", {}),
-        ("comes", kept, ["L2"], {"alert": said, "bracketed": "D"}),
+        ("comes", kept, ["L2"], {"alert": f"{upto} Not read after it: \u201cU F\u201d.", "bracketed": "D"}),
     )
 
 

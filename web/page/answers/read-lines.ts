@@ -91,7 +91,8 @@ export function readByHand(nissy: Nissy, line: { text: string; side: Side }): { 
   return { parts, isTurned: SIDES.some((side) => held[side] !== "") };
 }
 
-export type Unread = { line: string; fault: FaultParts };
+/** A line that can't be read, and those after it, which aren't read then. */
+export type Unread = { line: string; fault: FaultParts; rest: string[] };
 
 /** The steps of some lines of text, of a cube that is held so, up to the first that can't be read, and where in the
  * text each of them begins. */
@@ -99,10 +100,13 @@ function readAllByHand(
   nissy: Nissy, steps: PlainLine[], held: Held,
 ): { parts: Part[]; begins: number[]; unread: Unread | null } {
   const [parts, begins]: [Part[], number[]] = [[], []];
-  for (const each of steps) {
+  for (const [at, each] of steps.entries()) {
     const line = each.line.trim();
     const read = readOrFault(() => readHeld(nissy, { text: line, side: "normal" }, held));
-    if ("fault" in read) return { parts: named(nissy, parts, held), begins, unread: { line, ...read } };
+    if ("fault" in read) {
+      const rest = steps.slice(at + 1).map((later) => later.line.trim());
+      return { parts: named(nissy, parts, held), begins, unread: { line, ...read, rest } };
+    }
     const { part } = read.value;
     held = read.value.held;
     if (part.normal === "" && part.inverse === "") continue;

@@ -93,9 +93,11 @@ function sentenceOf({ text, character }: FaultParts, line: string) {
 /** What is said of a text with a line that can't be read, or "". */
 export function whyUnread(unread: Unread | null) {
   if (unread === null) return "";
-  const { line, fault } = unread;
-  const shown = visible(line.slice(0, MOST_SIGNS)) + (line.length > MOST_SIGNS ? "…" : "");
-  return `The steps of this text are read up to the line “${shown}”: ${sentenceOf(fault, line)}`;
+  const { line, fault, rest } = unread;
+  const [shown, ...later] = [line, ...rest].map((each) =>
+    `“${visible(each.slice(0, MOST_SIGNS))}${each.length > MOST_SIGNS ? "…" : ""}”`);
+  const after = later.length === 0 ? "" : ` Not read after it: ${later.join(", ")}.`;
+  return `The steps of this text are read up to the line ${shown}: ${sentenceOf(fault, line)}${after}`;
 }
 
 /** The text around a place, with a mark at it and a sign under it. */
