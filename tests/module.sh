@@ -15,7 +15,7 @@ if [ ! -e "$module" ] || missing node || missing tsc; then
     skips_all "there is no module that make build/nissy.wasm built, no node, or no tsc"
 fi
 holds "tsc compiles the scripts" tools/web-scripts
-for trial in layout typed in_worker rows plain text net lists best sides pool address; do part node "tests/module/$trial.mjs" "$module"; done
+for trial in layout typed in_worker rows plain text net lists held best sides pool address; do part node "tests/module/$trial.mjs" "$module"; done
 
 cp -R build/web/module "$room/types" && cp tests/module/types.ts "$room/types"
 # tsc says so too if a call that the caller marks as wrong is none
