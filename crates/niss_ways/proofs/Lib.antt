@@ -8,3 +8,4 @@ pub mod SinkLemmas
 pub mod TruthLemmas
 pub mod KeptLemmas
 pub mod TurnLemmas
+pub mod StartLemmas

@@ -94,34 +94,38 @@ went_into a b (x ∷ xs) (inr h) = first_more a h.0 b x xs h.1.0 (went_into h.0 
 -- Some of the first ones came, and then one was left out.
 pub record IsFull (a : Rows) (all : List Pair) (b : Rows) : Type 0 where
   pub first : CameFirst a all b
+  pub is_more : 0 < length first.rest
   pub full : (came : List Pair) → HasListed a came → b.rows ≡ length b.room.now
   pub uncounted : b.counts ≡ false
 
-stopped_now : (a b : Rows) (xs : List Pair) → LeftOut a b → IsFull a xs b
-stopped_now a b xs left = record {
+stopped_now : (a b : Rows) (x : Pair) (xs : List Pair) → LeftOut a b → IsFull a (x ∷ xs) b
+stopped_now a b x xs left = record {
   first = record {
     came = [];
-    rest = xs;
+    rest = x ∷ xs;
     are = refl;
     lists = record {
       stays = left.stays;
       lists = λ came h. subst (λ (ps : List Pair). HasListed b ps) (sym (append-nil came)) (left.lists came h);
     };
   };
+  is_more = omega arith;
   full = left.full;
   uncounted = left.uncounted;
 }
 
 stopped_later : (a b c : Rows) (x : Pair) (xs : List Pair) → ListedOne a x b → IsFull b xs c → IsFull a (x ∷ xs) c
+unfolding first_more
 stopped_later a b c x xs one h = record {
   first = first_more a b c x xs one h.first;
+  is_more = h.is_more;
   full = λ came k. h.full (came ++ x ∷ []) (one.lists came k);
   uncounted = h.uncounted;
 }
 
 pub stopped : (a b : Rows) (xs : List Pair) → StoppedIn took refused a xs b → IsFull a xs b
 stopped a b [] none = elim none [ ]
-stopped a b (x ∷ xs) (inl left) = stopped_now a b (x ∷ xs) left
+stopped a b (x ∷ xs) (inl left) = stopped_now a b x xs left
 stopped a b (x ∷ xs) (inr h) = stopped_later a h.0 b x xs h.1.0 (stopped h.0 b xs h.1.1)
 
 -- what is told is told by what is equal
@@ -234,7 +238,7 @@ module _ (a b : Rows) (step : Step) (e : Place → Place) (listed : Listed) (fou
 
   into : (came rest : List Pair) → all ≡ came ++ rest → HasListed a [] → Came a came b → a.step ≡ step → a.passed ≡ listed.passed
       → a.counts ≡ listed.counts → found.rows ≡ b.rows → found.solutions ≡ b.came → (found.cut ≡ false → found.more ≡ false → rest ≡ [])
-      → (found.more ≡ true → (b.rows ≡ length b.room.now) × (b.counts ≡ false)) → (found.cut ≡ false → found.more ≡ false → found.looks ≡ all_looks)
+      → (found.more ≡ true → (b.rows ≡ length b.room.now) × (b.counts ≡ false) × (0 < length rest)) → (found.cut ≡ false → found.more ≡ false → found.looks ≡ all_looks)
       → found.looks ≤ all_looks → (found.cut ≡ true → listed.most_looks < all_looks) → (found.cut ≡ true → listed.most_looks < found.looks + length (turns_of step))
       → ListsInto a.names.now step e listed (length a.room.now) b.room.now found
   into came rest are empty h is_step is_passed is_counts rows solutions whole full looked at_most cut spent =
@@ -249,6 +253,7 @@ module _ (a b : Rows) (step : Step) (e : Place → Place) (listed : Listed) (fou
         same_length = h.stays.same_length;
         counted = solutions ∙ has.counted;
         full = λ more. rows ∙ (full more).0 ∙ h.stays.same_length;
+        is_more = λ more. (full more).2;
         uncounted = λ more. sym is_counts ∙ sym h.stays.counts ∙ (full more).1;
         looked = looked;
         looked_at_most = at_most;
@@ -267,7 +272,7 @@ module _ (a b : Rows) (step : Step) (e : Place → Place) (listed : Listed) (fou
   lists_into meter meter_now bound (Err (Refused full)) h zero is empty is_step is_passed is_counts ends spent =
       let at : IsFull a all b = stopped a b all h.taken in
       into at.first.came at.first.rest at.first.are empty at.first.lists is_step is_passed is_counts ends.rows_are ends.solutions_are
-      (λ cut more. absurd (false≢true (sym more ∙ ends.more))) (λ more. (at.full [] empty, at.uncounted)) (λ cut more. absurd (false≢true (sym more ∙ ends.more)))
+      (λ cut more. absurd (false≢true (sym more ∙ ends.more))) (λ more. (at.full [] empty, at.uncounted, at.is_more)) (λ cut more. absurd (false≢true (sym more ∙ ends.more)))
       (omega (arith, ends.looks_are, h.looked, zero)) (λ cut. absurd (false≢true (sym ends.cut ∙ cut))) (λ cut. absurd (false≢true (sym ends.cut ∙ cut)))
   lists_into meter meter_now bound (Err Cut) h zero is empty is_step is_passed is_counts ends spent =
       let first : CameFirst a all b = went_into a b all h.taken in

@@ -33,6 +33,8 @@ pub record ListsInto (names : List Face) (step : Step) (e : Place → Place) (li
   pub same_length : length room ≡ places
   pub counted : found.solutions ≡ min (length came) (2 ^ 64 - 1)
   pub full : found.more ≡ true → found.rows ≡ places
+  -- another one had no place
+  pub is_more : found.more ≡ true → 0 < length rest
   pub uncounted : found.more ≡ true → listed.counts ≡ false
   pub looked : found.cut ≡ false → found.more ≡ false → found.looks ≡ looks_of_pairs step e listed.sides listed.length
   pub looked_at_most : found.looks ≤ looks_of_pairs step e listed.sides listed.length

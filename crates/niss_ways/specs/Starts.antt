@@ -15,13 +15,14 @@ turns_after held s = clean_turns (map (renamed_turn (face_before held)) (faces s
 
 -- The line has turns before the scramble, the scramble's, and those that were made on the normal side, as the cube is
 -- held after the scramble. What was made on the inverse undoes what comes before the scramble: the turns of moves that undo
--- those in brackets, on a cube held in some way.
+-- those in brackets, as the cube is held after the scramble and the moves outside brackets.
 pub record Leads (scramble so_far : Moves) (line on_normal on_inverse : List Turn) : Type 0 where
   pub held : Rotation
   pub of_scramble : IsRotationOf (joined_moves scramble) held
   pub normal : on_normal ≡ turns_after held so_far.normal
   pub before : List Turn
   pub held_last : Rotation
+  pub of_both : IsRotationOf (joined_moves scramble ++ so_far.normal) held_last
   pub undoes : before ≡ turns_after held_last (inverse so_far.bracketed)
   pub inverse : on_inverse ≡ reverse (map inverse_turn before)
   pub line_is : line ≡ before ++ faces (joined_moves scramble) ++ on_normal

@@ -1,10 +1,11 @@
 //! Where a search begins: the cube after a scramble and the moves so far, and how those name the faces.
 ghost use Rattle.niss_moves.specs.Effects.{effect_of_turns};
-ghost use Rattle.niss_moves.specs.Places.{SameMap};
+ghost use Rattle.niss_moves.specs.Places.{Place, SameMap};
 ghost use Rattle.niss_cube.specs.Map.{map_of};
-ghost use Rattle.std.specs.Prelude.{◌≡◌, ◌<◌, ◌≤◌, ◌++◌, length, map, reverse, IfSome, MatchOption};
-ghost use Rattle.niss_moves.specs.Effects.{inverse, inverse_turn};
-ghost use Rattle.niss_moves.specs.Rotations.{faces};
+ghost use Rattle.std.specs.Prelude.{◌≡◌, ◌<◌, ◌≤◌, ◌++◌, List, length, map, reverse, IfSome, MatchOption};
+ghost use Rattle.niss_moves.specs.Effects.{effect, inverse, inverse_turn};
+ghost use Rattle.niss_moves.specs.Rotations.{IsRotationOf, faces, spelling};
+ghost use Rattle.niss_moves.specs.declared.token.Token.{Token};
 ghost use Rattle.niss_ways.specs.Starts.{turns_after};
 
 use crate::counting::{cleaned, inverse_of};
@@ -52,7 +53,9 @@ impl Model for Start {
 }
 
 /// A rotation and then another.
-fn then(rotation: Rotation, next: Rotation) -> Rotation {
+fn then(rotation: Rotation, next: Rotation) -> Rotation
+    ensures { (q : Place) → effect (spelling result) q ≡ effect (spelling next) (effect (spelling rotation) q) }
+{
     let first = match next.top.to_top() {
         Some((axis, power)) => rotation.then(axis, power),
         None => rotation,
@@ -70,6 +73,8 @@ fn made_after(rotation: Rotation, moves: &[Token]) -> Option<(Faces, Rotation)>
     ensures few { MatchOption result (200 < length (faces moves.now))
         (λ made. (length (faces moves.now) ≤ 200) × (length made.0.items ≤ 200)) }
     ensures turns { IfSome result (λ made. made.0.items ≡ turns_after rotation moves.now) }
+    ensures held { IfSome result (λ made.
+        (s : List Token) → IsRotationOf s rotation → IsRotationOf (s ++ moves.now) made.1) }
 {
     let (turns, left) = to_faces(moves);
     if turns.len() > MOST_MADE {
