@@ -231,7 +231,11 @@ class Mean(Beside):
             self.press(f"#kept-list > li:nth-child({place + 1}) [data-control^='compare ']")
         self.press("#kept-compare")
         self.tally.holds("they are compared", self.browser.until("return part('comparison').open"))
-        self.same("compared lines", self.browser.script(COMPARED), [self.sheet.beside(each) for each in shown])
+        self.same(
+            "compared lines",
+            self.browser.script(COMPARED),
+            [self.sheet.beside(each, self.browser.program) for each in shown],
+        )
         self.press("#comparison-close")
 
     def copied(self, button: str) -> str:
