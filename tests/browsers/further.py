@@ -30,7 +30,7 @@ return [said("", ""), said(tried, ""), said(tried, "120 more rows, from 10 moves
 # by how many points the button of what was found reaches below the line that it stands in, on a phone
 COVERED = """
 const [note, found] = ["best-note", "best-new"].map((name) => document.getElementById(name));
-[found.textContent, found.hidden] = ["1,160 more, from 10", false];
+[found.textContent, found.hidden] = ["1,160 more rows", false];
 return Math.max(0, Math.round(found.getBoundingClientRect().bottom - note.getBoundingClientRect().top));
 """
 WIDTHS = (1920, 1440, 1180, 1024, 960, 900, 768, 640, 601, 600, 430, 390, 360, 320)

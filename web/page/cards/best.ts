@@ -323,10 +323,9 @@ export class BestContinuations {
     const left = this.#filters.count > 0 ? this.#rows(this.#progress).length : this.#progress.count;
     part("best-more").hidden = this.#shown >= left;
     const rows = this.#joining();
-    const [count, from] = [rows.length, `from ${rows[0]?.total}`];
-    const words = isNarrow() ? `${grouped(count)} more, ${from}` : `${counted(count, "more row")}, ${from} moves`;
-    tell(part("best-new"), count === 0 ? "" : words);
-    part("best-note").textContent = this.#note(this.#progress, left, count > 0);
+    const from = isNarrow() ? "" : `, from ${rows[0]?.total} moves`;
+    tell(part("best-new"), rows.length === 0 ? "" : counted(rows.length, "more row") + from);
+    part("best-note").textContent = this.#note(this.#progress, left, rows.length > 0);
   }
 
   /** What is said of rows that are shown, of which the filters leave some, and of longer ones, which may be offered. */
