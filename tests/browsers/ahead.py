@@ -60,7 +60,12 @@ def over_both(tally: Tally, browser: Browser) -> None:
     browser.choose("list-side", "inverse")
     browser.wait()
     tally.equal("another side is chosen", browser.listed(), Position(LONGER).solutions("eofb", "inverse"))
-    browser.go(address_of(LONGER) + "&list=eofb.both.0")
+    browser.walk(
+        tally,
+        "it opens from the table of the next steps",
+        ("go", address_of(LONGER), {}),
+        ("act", '[data-cell="eofb.both"]', {"hash": address_of(LONGER) + "&list=eofb.both.0"}),
+    )
     classes = Counter(tuple(twin_key(moves, "eofb") for moves in pair) for pair in pairs)
     tally.equal("twins have one row", (len(browser.listed()), len(pairs) > len(classes)), (len(classes), True))
     words = [" ".join(each.split()) for each in browser.texts("#solutions-groups .twins")]

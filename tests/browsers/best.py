@@ -6,7 +6,7 @@ from browser import LAST_STEP_AWAY, Browser
 from program import program_answers
 from tally import Tally
 from wanted import TITLES
-from ways import firsts_of, line_of, rows_of, title_of, ways
+from ways import line_of, rows_of, then_of, title_of, ways
 
 SCRAMBLE = "F2 U2 L2 D2 R2 L2 U2 L B R2 B2 L2 D F B2 R2 U' F R L U R2 F' D2 R2"
 LONGER = "R' U' F D2 L2 F R2 U2 R2 B D2 L B2 D' B2 L' R' B' D2 B2 R' U' F"
@@ -34,6 +34,11 @@ def address_of(scramble: str) -> str:
     return "#scramble=" + scramble.replace(" ", "_").replace("'", "-")
 
 
+def moves_of(first: str) -> str:
+    """The moves of the first reduction of a row, which says how many they are if they are over both sides."""
+    return first.removeprefix("then ").split(": ")[-1]
+
+
 def best(tally: Tally, browser: Browser) -> None:
     """All ways on by the shortest orientations, as the model has them, and the way on from the best."""
     browser.open(address_of(SCRAMBLE))
@@ -47,7 +52,9 @@ def best(tally: Tally, browser: Browser) -> None:
     rows = browser.script(ROWS)
     tally.equal("they are those of the model, in its order", rows, wanted)
     tally.equal(
-        "each with the first of its reductions", [first for first, *_ in browser.script(DETAILS)], firsts_of(found)
+        "each with the first of its reductions",
+        [first for first, *_ in browser.script(DETAILS)],
+        [then_of(way) for way in found],
     )
     marks = browser.script(
         "return all('#best-body tr').map((row) => [...row.querySelectorAll('.number')].map((each) => each.matches('.best')))"
@@ -65,6 +72,14 @@ def best(tally: Tally, browser: Browser) -> None:
         ],
     )
     tally.holds("of one, of both and of none", {0, 1, 2} <= {sum(each) for each in marks})
+    over = "return all('#best-body tr').map((row) => [...row.querySelectorAll('.first .best')].map((each) => [each.textContent, each.title]))"
+    tally.equal(
+        "so is the length of a reduction over both sides, which no column has",
+        browser.script(over),
+        [[[str(len(line_of(way.dr).split())), "over both sides"]] if all(way.dr) else [] for way in found],
+    )
+    written = "return [...new Set(all('.first .best').map((each) => getComputedStyle(each, '::after').content))]"
+    tally.equal("with words beside a mouse", browser.script(written), ['" over both"'])
     filters_orientations(tally, browser, [tuple(row) for row in rows])
     at = next(at for at, way in enumerate(found) if all(way.eo))
     line, total, reached = rows[at][1], int(rows[at][0]), rows[at][3]
@@ -171,7 +186,7 @@ def says_no_reduction(tally: Tally, browser: Browser) -> None:
         "the rows", [row[:2] for row in browser.script(ROWS)], [[str(way.total), line_of(way.eo)] for way in found]
     )
     said = [first for first, *_ in browser.script(DETAILS)]
-    tally.equal("what follows each", said, firsts_of(found))
+    tally.equal("what follows each", said, [then_of(way) for way in found])
     tally.holds("nothing follows some", "" in said and set(said) != {""})
 
 

@@ -6,8 +6,9 @@ from browser import Browser, Keys
 from kept import ADDRESS_OF_EXAMPLE, KEPT_SAID
 from program import program_answers
 from tally import Tally
-from wanted import SIDES, TITLES, Position
-from ways import line_of, title_of, ways
+from wanted import SIDES, Position
+from told import chosen_by
+from ways import line_of, state_of, title_of, ways
 
 # the moves of each on both sides: two orientations, one with its reduction, two that reach nothing
 EO, OTHER, DR, FIRST, LAST = (
@@ -35,11 +36,15 @@ def counts_of(at: Position, step: str, side: str) -> str:
     return ", ".join(f"{length} ×{lengths[length]:,}" for length in sorted(lengths))
 
 
-def steps_of(at: Position) -> list[list[str]]:
-    """The steps that follow, each with what solvers choose it by left out, and its counts on both sides."""
+def steps_of(at: Position, program: str) -> list[list[str]]:
+    """The steps that follow, each with what solvers choose it by, its least length over both sides if that is less than on each, and its counts there."""
     reductions, orientations = at.open_steps()
-    steps = [] if not at.keeps(reductions or orientations) else reductions or orientations
-    return [[TITLES[step].split(" after")[0], *(counts_of(at, step, side) for side in SIDES)] for step in steps]
+    over, rows = at.over_both(program), []
+    for step in [] if at.is_reduced() else reductions or orientations:
+        both = f" {over[step]} over both" if step in over else ""
+        head = f"{state_of(step)} {chosen_by(at, step)}{both}"
+        rows.append([head, *(counts_of(at, step, side) for side in SIDES)])
+    return rows
 
 
 def chooses(browser: Browser, *lines: tuple[str, str]) -> None:
@@ -78,15 +83,14 @@ def beside_each_other(tally: Tally, browser: Browser) -> None:
         reached = {EO: ", EO U/D", OTHER: ", EO R/L", DR: ", DR F/B", LAST: ""}[made]
         moves = f"{at.in_all()} move{'' if at.in_all() == 1 else 's'}"
         tally.equal(f"{made}: all moves, and what is reached", told["total"], moves + reached)
-        steps = [[" ".join(step.split()[:2]), *counts] for step, *counts in told["steps"]]
-        tally.equal(f"{made}: what follows on each side", steps, steps_of(at))
+        tally.equal(f"{made}: what follows on each side", told["steps"], steps_of(at, browser.program))
         tally.equal(f"{made}: nothing is marked only after a reduction", any(told["bad"]), made != DR)
     inverted = program_answers(browser.program, ["invert"], [EO[1]])[0]
     way = ways(f"0 ; {inverted} {LONGER} ; ; {EO[1]}")[0]
     tally.equal(
         "the first of the best, and the note",
         shown[line_of(EO)]["texts"],
-        [f"First: {line_of(way.dr)}, {way.total} in all", "six moves"],
+        [f"First: {line_of(way.dr)}, {title_of(way)}, {way.total} in all", "six moves"],
     )
     case = Position(LONGER, *EO).case(way.reduction)
     tally.equal(

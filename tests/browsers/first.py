@@ -26,7 +26,10 @@ def welcomes(tally: Tally, browser: Browser) -> None:
         )
     browser.click("#random")
     browser.settle("return part('scramble').value !== ''")
-    tally.holds("it leads to the answers", len(browser.cells()) == 6 and "welcome" not in browser.script(CARDS))
+    tally.holds(
+        "it leads to the answers",
+        browser.look("n #steps-body td .cell") == 6 and "welcome" not in browser.script(CARDS),
+    )
     browser.resize()
 
 

@@ -24,13 +24,13 @@ const said = (text, button) => {
   return Math.round(rows.getBoundingClientRect().top);
 };
 const tried = "1,160 rows. Up to 2 longer: 1,244,538 rows, none better.", held = "The best 200 of 307,200 rows. Up to 2 longer: about 11,000,000 EOs, 2 min.";
-return [said("", ""), said(tried, ""), said(tried, "120 better rows, from 10 moves"), said(`Stopped. ${tried}`, "120 better rows, from 10 moves"),
-  said(held, ""), said(held, "120 better rows, from 10 moves")];
+return [said("", ""), said(tried, ""), said(tried, "120 more rows, from 10 moves"), said(`Stopped. ${tried}`, "120 more rows, from 10 moves"),
+  said(held, ""), said(held, "120 more rows, from 10 moves")];
 """
 # by how many points the button of what was found reaches below the line that it stands in, on a phone
 COVERED = """
 const [note, found] = ["best-note", "best-new"].map((name) => document.getElementById(name));
-[found.textContent, found.hidden] = ["1,160 better rows", false];
+[found.textContent, found.hidden] = ["1,160 more rows", false];
 return Math.max(0, Math.round(found.getBoundingClientRect().bottom - note.getBoundingClientRect().top));
 """
 WIDTHS = (1920, 1440, 1180, 1024, 960, 900, 768, 640, 601, 600, 430, 390, 360, 320)
@@ -120,7 +120,7 @@ def goes_on(tally: Tally, browser: Browser) -> None:
 def shows_found(tally: Tally, browser: Browser, first: list[list[str]], top: int) -> None:
     """What was found is shown once it is asked for, and is what a search of two moves more finds."""
     words = browser.text("best-new")
-    said = re.fullmatch(r"[0-9,]+ better rows?, from (\d+) moves", words)
+    said = re.fullmatch(r"[0-9,]+ more rows?, from (\d+) moves", words)
     tally.holds(f"a button says that better ones are there: {words}", said and int(said[1]) < int(first[0][0]))
     browser.script("scrollTo({ top: 0, behavior: 'instant' })")
     before = browser.script(KEYS)
@@ -175,7 +175,7 @@ def stays(tally: Tally, browser: Browser) -> None:
 
 
 def says_more(tally: Tally, browser: Browser) -> None:
-    """Rows are called better only if the first of them has fewer moves than the best that is seen; better than the last one they are only more."""
+    """Rows that belong before the last that is seen are offered too, also if none belongs before the first."""
     begins(browser, NO_BETTER)
     before = browser.script(ROWS)
     browser.script(TURN, True)

@@ -3,7 +3,7 @@ import re
 from itertools import combinations
 
 from attempts import NOTES, PASTE
-from best import DETAILS, ROWS
+from best import DETAILS, ROWS, moves_of
 from browser import Browser
 from program import program_answers
 from scrambles import PASTE_ALL
@@ -129,7 +129,7 @@ def copies_kept(tally: Tally, browser: Browser) -> None:
 def lengths_of(row: list[str], first: str) -> str:
     """The lengths of a row's reduction on each side alone, and over both if its first one is."""
     *_, normal, inverse = row
-    moves = first.removeprefix("then ")
+    moves = moves_of(first)
     both = f", {len(moves.split())} over both" if "(" in moves and not moves.startswith("(") else ""
     return f"{normal} normal, {inverse} inverse{both}"
 
@@ -164,7 +164,7 @@ def keeps_reductions(tally: Tally, browser: Browser) -> None:
     tally.equal(
         "it says what the row said, and comes before an orientation alone",
         browser.script(KEPT_WORDS)[0],
-        [line, state, said, first],
+        [line, state, said, f"then {moves_of(first)}"],
     )
     tally.equal("which stays as it was", browser.script(KEPT_WORDS)[1][:2], [shortest, "EO R/L"])
     browser.script("document.querySelectorAll('#best-body .star')[arguments[0]].click()", other)
@@ -175,8 +175,8 @@ def keeps_reductions(tally: Tally, browser: Browser) -> None:
     tally.equal("they are sorted by all moves, which are told", totals[:2], [rows[one][0], rows[other][0]])
     names = browser.script("return [...document.querySelectorAll('#kept-list button')].map((each) => each.ariaLabel)")
     tally.equal("no two buttons have one name", len(set(names)), len(names))
-    count = len(first.split()) - 1
-    reads_reductions(tally, browser, said, f"{first.removeprefix('then ')} // {reduction} ({count}/{total})")
+    moves = moves_of(first)
+    reads_reductions(tally, browser, said, f"{moves} // {reduction} ({len(moves.split())}/{total})")
 
 
 def keeps_what_is_gone_on_to(tally: Tally, browser: Browser) -> None:
@@ -196,7 +196,7 @@ def keeps_what_is_gone_on_to(tally: Tally, browser: Browser) -> None:
     tally.equal(
         "the line with its reduction",
         [(*each[:2], each[2][:6], each[3]) for each in words],
-        [(line, state, reduction, first)],
+        [(line, state, reduction, f"then {moves_of(first)}")],
     )
     tally.equal("which the button says", browser.script(pressed, "#keep-line"), "true")
     browser.click("#solutions-close")

@@ -117,8 +117,7 @@ class Mean(Beside):
         shown = self.ways[: len(self.browser.texts("#best-body .take"))]
         # as many come in as there is room for
         joining = [way for way in ways[: next(each for each in ROOMS if len(shown) <= each)] if way not in shown]
-        kind = "better" if joining and joining[0].total < shown[0].total else "more"
-        button = f"{counted(len(joining), f'{kind} row')}, from {joining[0].total} moves" if joining else ""
+        button = f"{counted(len(joining), 'more row')}, from {joining[0].total} moves" if joining else ""
         self.same(f"{what}: the button", self.browser.text("best-new"), button)
         longer = f"Up to 1 longer: {counted(len(ways), 'row')}{'' if joining else ', none better'}."
         self.best(what, self.sheet.line, self.ways, f"{counted(len(self.ways), 'row')}. {longer}")
@@ -232,7 +231,11 @@ class Mean(Beside):
             self.press(f"#kept-list > li:nth-child({place + 1}) [data-control^='compare ']")
         self.press("#kept-compare")
         self.tally.holds("they are compared", self.browser.until("return part('comparison').open"))
-        self.same("compared lines", self.browser.script(COMPARED), [self.sheet.beside(each) for each in shown])
+        self.same(
+            "compared lines",
+            self.browser.script(COMPARED),
+            [self.sheet.beside(each, self.browser.program) for each in shown],
+        )
         self.press("#comparison-close")
 
     def copied(self, button: str) -> str:

@@ -345,7 +345,7 @@ def places(tally: Tally, browser: Browser) -> None:
         in_view("a step", *(("bar-line", "bar-undo") if is_narrow else ("line-list", "own", "net-normal")))
         top = browser.script(table)
         tally.holds(f"{width}: after a step the table begins at {top}", 0 <= top < (500 if is_narrow else 600))
-        browser.act("#steps-body tr:has(.least) .cell")
+        browser.act("#steps-body tr:has(.least) td .cell")
         tally.holds(f"{width}: there are long solutions", any(len(moves.split()) == 8 for moves in browser.listed()))
         # on a phone with the cases that they pass
         most = 2 if is_narrow else 1

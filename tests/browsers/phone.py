@@ -229,7 +229,7 @@ def is_even(tally: Tally, browser: Browser) -> None:
         };
         const evens = [seen('#best-options > summary, #best-more'), ...all('#best-body tr').map((row) => [...row.querySelectorAll('.axis, td.number')])];
         return evens.filter((each) => new Set(each.map(baseline)).size !== 1).map((each) => each.map((one) => [one.textContent, baseline(one)]))"""
-    uneven = """return all('#steps-body tr').map((row) => new Set([...row.querySelectorAll('.cell')].map((each) => each.offsetHeight)).size)
+    uneven = """return all('#steps-body tr').map((row) => new Set([...row.querySelectorAll('td .cell')].map((each) => each.offsetHeight)).size)
         .filter((count) => count > 1).length"""
     room = """const words = document.createRange();
         words.selectNodeContents(part('best-more'));

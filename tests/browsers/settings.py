@@ -57,7 +57,7 @@ def keeps_nothing(tally: Tally, browser: Browser) -> None:
     """Where the browser keeps nothing, or has no room, all but the theme and the offer of what was done last is as it was."""
     for what, script in (("denied", DENIED), ("full", FULL)):
         name = browser.before_page(script)
-        looks = {"bracketed": "R", "alert": "", "n #steps-body .cell": 6, "hash": SCRAMBLE + "&steps=normal.R"}
+        looks = {"bracketed": "R", "alert": "", "n #steps-body td .cell": 6, "hash": SCRAMBLE + "&steps=normal.R"}
         browser.walk(
             tally,
             what,
@@ -90,6 +90,6 @@ def has_a_long_history(tally: Tally, browser: Browser) -> None:
             "comes",
             "hash",
             SCRAMBLE + "&steps=normal.R",
-            {"bracketed": "R", "alert": "", "failed": "", "n #steps-body .cell": 6},
+            {"bracketed": "R", "alert": "", "failed": "", "n #steps-body td .cell": 6},
         ),
     )

@@ -1,7 +1,7 @@
 """What is kept of the scrambles of a desk, by the independent model: how it is shown, copied and compared."""
 from typing import NamedTuple
 
-from compared import counts_of
+from compared import steps_of
 from sighted import marked
 from told import AXES, Line, bracketed, is_reduced, joined, newly, states
 from wanted import SIDES, counted
@@ -80,24 +80,16 @@ class Sheet:
             lines.append(f"// {self.after(kept)[0]}")
         return "\n".join([*lines, *([f"// {kept.note}"] if kept.note else [])])
 
-    def beside(self, kept: Kept) -> list[object]:
+    def beside(self, kept: Kept, program: str) -> list[object]:
         """A line as it is compared: its cube with what is marked, the steps that follow with how many there are, the first of the best, its note."""
         at, way = kept.line.at, self.next_of(kept)
-        reductions, orientations = at.open_steps()
-        steps = [] if is_reduced(at) else reductions or orientations
-        first = way or (self.ways(kept.line)[0] if steps else None)
+        rows = steps_of(at, program)
+        first = way or (self.ways(kept.line)[0] if rows else None)
         choice = "" if first is None else state_of(f"eo{first.axis}" if any(first.eo) else first.step)
         marks = [marked(at.lines[side], choice) if choice else ["", []] for side in SIDES]
         captions = [[f"{side.title()}{said}", bad] for side, (said, bad) in zip(SIDES, marks)]
-        by = [
-            counted(at.bad_edges(step[2:]), "bad edge") if step.startswith("eo") else at.case(step[2:4])
-            for step in steps
-        ]
-        rows = [
-            [f"{state_of(step)} {it}", *(counts_of(at, step, side) for side in SIDES)] for step, it in zip(steps, by)
-        ]
-        said = f"First: {bracketed(first.eo, first.dr)}, {first.total} in all" if first else ""
-        texts = [*([] if steps else ["nissy has no step after a DR."]), said, kept.note]
+        said = f"First: {bracketed(first.eo, first.dr)}, {title_of(first)}, {first.total} in all" if first else ""
+        texts = [*([] if rows else ["nissy has no step after a DR."]), said, kept.note]
         total = ", ".join([counted(at.in_all(), "move"), *newly([], states(at))])
         return [bracketed(*kept.line.steps), total, [at.letters(side) for side in SIDES], captions, rows, texts]
 

@@ -7,7 +7,7 @@ from passage import sides_of
 from told import AXES, Line, Listed, Moves, bracketed, cells, heads, is_reduced, passed, states, trigger, twins_said
 from wanted import SIDES, TITLES, counted
 from tally import Tally  # isort: skip
-from ways import Way  # isort: skip
+from ways import Way, state_of, then_of  # isort: skip
 
 # of the folder of the model, which `wanted` names
 import bad_pieces  # isort: skip
@@ -25,15 +25,15 @@ STEPS = (
 HEADS = (
     PASSED
     + """return all('#steps-body tr:not(.anew) th').map((each) =>
-    [each.children[0].textContent, each.children[1].textContent.trim(), each.children[2]?.textContent ?? ''])"""
+    [each.children[0].textContent, each.children[1].textContent.trim(), each.children[2]?.textContent ?? '', each.children[2]?.ariaLabel ?? ''])"""
 )
-CELLS = "return all('#steps-body .cell').map((each) => [each.ariaLabel, each.children[0].textContent, each.children[1].textContent])"
+CELLS = "return all('#steps-body td .cell').map((each) => [each.ariaLabel, each.children[0].textContent, each.children[1].textContent])"
 BEST = (
     PASSED
     + """return all('#best-body tr').map((row) => [
     row.children[0].textContent, row.querySelector('.take').textContent, text(row, '.twins'), texts(row, '.axis'),
     [...row.querySelectorAll('.number')].map((one) => [one.textContent, one.matches('.best')]),
-    text(row, '.first'), passed(row), row.querySelector('.axis').dataset.trigger])"""
+    text(row, '.first'), texts(row, '.first .best'), passed(row), row.querySelector('.axis').dataset.trigger])"""
 )
 LIST = (
     PASSED
@@ -176,11 +176,14 @@ def short(words: str) -> str:
 def marked(line: str, choice: str) -> list[object]:
     """What is said beside a net, and which of its stickers are marked."""
     kind, axis = choice.split(" ")
-    bad = bad_pieces.seen(line.encode()).axes[axis.replace("/", "").lower()]
+    seen = bad_pieces.seen(line.encode())
+    bad = seen.axes[axis.replace("/", "").lower()]
     if kind == "EO":
-        words, pieces = f"{len(bad.bad_edges)} bad" if bad.bad_edges else "done", list(bad.bad_edges)
+        words, pieces = f"{len(bad.bad_edges)} bad", list(bad.bad_edges)
     else:
         words, pieces = f"{len(bad.bad_corners)}c{len(bad.misplaced_edges)}e", [*bad.bad_corners, *bad.misplaced_edges]
+    if choice in [state_of(step) for step in TITLES if step in seen.holds]:
+        words = "done"
     places = {place for piece in pieces for place in bad_pieces.STICKERS[piece]}
     return [f" \u00b7 {choice}: {words}", [at for at, place in enumerate(FACELETS) if place in places]]
 
@@ -191,7 +194,8 @@ def best_row(line: Line, way: Way) -> list[object]:
     head = [str(way.total), bracketed(first), twins_said(step, first)]
     reached = f"DR {AXES[way.reduction]}"
     if step == way.step:
-        return [*head, [reached], [], "", passed(line.at, first, way.reduction), trigger(line.at, first, way.reduction)]
+        way_on = passed(line.at, first, way.reduction)
+        return [*head, [reached], [], "", [], way_on, trigger(line.at, first, way.reduction)]
     after = line.and_then(first).at
     numbers = [after.count(way.step, side) for side in SIDES]
     alone = [bool(moves) and not other for moves, other in (way.dr, way.dr[::-1])]
@@ -200,9 +204,10 @@ def best_row(line: Line, way: Way) -> list[object]:
         [f"{length}\u00d7{solutions:,}", is_alone or length == least]
         for is_alone, (length, solutions, _) in zip(alone, numbers)
     ]
-    then = bracketed(way.dr)
+    # what is as short as that stands in no column
+    over = [str(least)] if all(way.dr) else []
     axes = [TITLES[step], f"{reached} {way.case}"]
-    return [*head, axes, shown, f"then {then}" if then else "", passed(after, way.dr, way.reduction), ""]
+    return [*head, axes, shown, then_of(way), over, passed(after, way.dr, way.reduction), ""]
 
 
 def moves_of(row: str) -> Moves:

@@ -191,8 +191,9 @@ def filters(tally: Tally, browser: Browser) -> None:
 
 
 # what a row of the table says of a step over both sides, and what is marked as the shortest
-OVER = "return all('#steps-body tr:not(.anew) th').map((each) => [...each.querySelectorAll('small')].slice(1).map((one) => one.textContent))"
-LEAST = "return all('#steps-body .least').map((each) => each.dataset.cell ?? each.textContent)"
+OVER = "return all('#steps-body tr:not(.anew) th').map((each) => [...each.querySelectorAll('.cell')].map((one) => one.textContent))"
+LEAST = "return all('#steps-body .least').map((each) => each.dataset.cell)"
+PRESSED = "return all('#steps-body [aria-pressed=true]').map((each) => each.dataset.cell)"
 
 
 def says_over_both(tally: Tally, browser: Browser) -> None:
@@ -204,16 +205,29 @@ def says_over_both(tally: Tally, browser: Browser) -> None:
         address = f"#scramble={scramble}".replace(" ", "_").replace("'", "-") + (
             "&steps=" + ".".join(parts) if parts else ""
         )
-        said = [[f"{over[step]} over both"] if step in over else [] for group in at.open_steps() for step in group]
+        said = [
+            [f"{over[step]} moves over both"] if step in over else [] for group in at.open_steps() for step in group
+        ]
         browser.walk(tally, f"{scramble} {made}", ("go", address, {"cells": at.cells(browser.program), OVER: said}))
     # five moves on a side, four over both
     start = f"#scramble={EXAMPLE}".replace(" ", "_").replace("'", "-")
     browser.walk(
         tally,
         "the shortest are over both",
-        ("open", start, {LEAST: ["4 over both", "4 over both"]}),
-        ("comes", "said", "Shortest next step: EO F/B, both sides: 4 moves.", {}),
-        ("script", "part('skip').click()", {"focus": "eofb.normal"}),
+        ("open", start, {LEAST: ["eofb.both", "eorl.both"], PRESSED: []}),
+        ("comes", "said", "Shortest next step: EO F/B, 4 moves over both sides.", {}),
+        ("script", "part('skip').click()", {"focus": "eofb.both"}),
+    )
+    lists = {"solutions-heading": "EO F/B, both sides", "list-side=": "both", PRESSED: ["eofb.both"]}
+    browser.walk(
+        tally,
+        "its list opens by a key, and closes",
+        ("press", Keys.ENTER, {**lists, "hash": f"{start}&list=eofb.both.0"}),
+        ("press", Keys.ESCAPE, {"solutions?": False, PRESSED: [], "hash": start}),
+        ("act", '[data-cell="eofb.both"]', lists),
+        ("act", '[data-cell="eofb.both"]', {"solutions?": False, "focus": "eofb.both"}),
+        ("press", "1", {"solutions-heading": "EO F/B, normal side", PRESSED: ["eofb.normal"]}),
+        ("choose", "list-side", "both", lists),
     )
 
 

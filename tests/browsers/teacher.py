@@ -164,7 +164,7 @@ def shows_a_reduction(tally: Tally, browser: Browser) -> None:
         [f"({first}) {second}", [each for at, each in enumerate(cases[:4]) if at == 0 or each != cases[at - 1]]],
     )
     marked = "return [part('marked-normal').textContent.replace(' \u00b7 ', ''), document.querySelector('#net-normal .net').matches('.marked')]"
-    tally.equal("the cube in the end", browser.script(marked), [f"DR F/B: {cases[4]}", False])
+    tally.equal("the cube in the end", (cases[4], browser.script(marked)), ("0c0e", ["DR F/B: done", False]))
     moves = ["", *first.split(), *second.split()]
     browser.walk(
         tally, "the last move is told apart, and no key undoes it", ("press", "u", {"steps": 2, MADE: moves[10:]})

@@ -105,28 +105,40 @@ def newly(before: list[str], after: list[str]) -> list[str]:
     return [state for state in fresh if state.startswith("DR")] or fresh
 
 
+def shortest(at: Position, group: list[str], over: dict[str, int]) -> int | None:
+    """The least length of some steps, on a side or over both; none of those that give up what is reached."""
+    lengths = [at.count(step, side)[0] for step in group for side in SIDES] + [
+        over[step] for step in group if step in over
+    ]
+    return min(lengths, default=0) if at.keeps(group) else None
+
+
+def chosen_by(at: Position, step: str) -> str:
+    """What one chooses a step by."""
+    return counted(at.bad_edges(step[2:4]), "bad edge") if step.startswith("eo") else at.case(step[2:4])
+
+
 def heads(at: Position, program: str) -> list[list[str]]:
-    """What stands before the cells of the table: the step, what one chooses it by, and the least length over both sides if that is less."""
-    over = {} if is_reduced(at) else at.over_both(program)
+    """What stands before the cells of the table: the step, what one chooses it by, and the least length over both sides if that is less, with what is
+    said of it."""
+    over = at.over_both(program)
     rows = []
     for group in at.open_steps():
-        is_one_of = len({step[5:] for step in group}) > 1
+        is_one_of, least = len({step[5:] for step in group}) > 1, shortest(at, group, over)
         for step in group:
-            axis = step[2:4]
-            by = counted(at.bad_edges(axis), "bad edge") if step.startswith("eo") else at.case(axis)
-            both = f"{over[step]} over both" if step in over else ""
-            rows.append([TITLES[step] if is_one_of else state_of(step), by, both])
+            rows.append([TITLES[step] if is_one_of else state_of(step), chosen_by(at, step), "", ""])
+            if step in over:
+                length, last = counted(over[step], "move"), ", shortest" if over[step] == least else ""
+                rows[-1][2:] = [f"{length} over both", f"{TITLES[step]}, {length} over both sides{last}"]
     return rows
 
 
 def cells(at: Position, program: str) -> list[list[str]]:
     """The cells of the table: step, side, length, solutions, and whether it is one of the shortest."""
-    over = {} if is_reduced(at) else at.over_both(program)
     shown = []
     for group in at.open_steps():
         counts = {(step, side): at.count(step, side) for step in group for side in SIDES}
-        lengths = [length for length, _, _ in counts.values()] + [over[step] for step in group if step in over]
-        least = min(lengths, default=0) if at.keeps(group) else None
+        least = shortest(at, group, at.over_both(program))
         for (step, side), (length, solutions, _) in counts.items():
             words = [TITLES[step], f"{side} side", counted(length, "move"), at.in_words(step, side, solutions)]
             shown.append([*words, "shortest" if length == least else ""])

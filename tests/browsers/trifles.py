@@ -1,7 +1,9 @@
 """What isn't asked for often: less motion, a sheet, a browser that refuses to copy, keys in a field, titles, a line kept with its
 reduction."""
+from best import address_of
 from browser import LAST_STEP_AWAY, WORDS, Browser, Keys
 from looks import SCRAMBLE
+from searches import FLIPPED
 from tally import Tally
 
 LINE = SCRAMBLE + "&steps=inverse.B_D_R_F2_B_D"
@@ -116,9 +118,15 @@ def marks_what_is_pointed_at(tally: Tally, browser: Browser) -> None:
 def marks_its_reduction(tally: Tally, browser: Browser) -> None:
     """A line that is solved after a reduction has the marks of that, though others hold then too."""
     steps = "#scramble=L2_U2_R-_F-&steps=normal.F"
-    said = {"marked-normal": "· DR R/L: 0c0e", "marked-inverse": "· DR R/L: 0c0e"}
+    said = {"marked-normal": "· DR R/L: done", "marked-inverse": "· DR R/L: done"}
     for line in (steps, f"{steps}~normal.R", f"{steps}~normal.R_U2_L2"):
         browser.walk(tally, line, ("go", line, said))
+    # of flipped edges none is on the wrong side of a slice
+    for choice, words in (("DR U/D", "0c0e"), ("EO U/D", "12 bad")):
+        browser.go(address_of(FLIPPED))
+        browser.choose("marks", choice)
+        browser.walk(tally, "not done", ("wait", {"marked-normal": f"· {choice}: {words}"}))
+    browser.choose("marks", "follow")
 
 
 def takes_an_empty_line(tally: Tally, browser: Browser) -> None:

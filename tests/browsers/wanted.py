@@ -153,11 +153,17 @@ class Position:
         steps = [step for step in TITLES if self.may_start(step) and self.count(step, "normal")[0] > 0]
         return [[step for step in steps if step.startswith(kind)] for kind in ("dr", "eo")]
 
+    def reached(self) -> list[str]:
+        """The steps that it has reached."""
+        return [step for step in TITLES if self.may_start(step) and self.count(step, "normal")[0] == 0]
+
+    def is_reduced(self) -> bool:
+        """Whether a reduction is reached."""
+        return any(step.startswith("dr") for step in self.reached())
+
     def keeps(self, group: list[str]) -> bool:
         """Whether steps keep what is reached: reductions keep an orientation, and no step keeps a reduction."""
-        reached = [step for step in TITLES if self.may_start(step) and self.count(step, "normal")[0] == 0]
-        is_reduced = any(step.startswith("dr") for step in reached)
-        return not reached or (not is_reduced and all(step.startswith("dr") for step in group))
+        return not self.reached() or (not self.is_reduced() and all(step.startswith("dr") for step in group))
 
     def in_all(self, side: str = "normal", moves: str = "") -> int:
         """How many moves there are once neighbours are merged on each side, with some more on one of them."""
@@ -181,8 +187,9 @@ class Position:
         return f"{totals[0]} in all, {f'{best:,} of ' if best < solutions else ''}{counted(solutions, 'solution')}"
 
     def over_both(self, program: str) -> dict[str, int]:
-        """The least lengths over both sides, by the built program, of the steps that may follow and take less so than on each side alone."""
-        steps = [step for group in self.open_steps() for step in group]
+        """The least lengths over both sides, by the built program, of the steps that may follow and take less so than on each side alone; after a
+        reduction, which all of them give up, none is told."""
+        steps = [] if self.is_reduced() else [step for group in self.open_steps() for step in group]
         alone = {step: min(self.count(step, side)[0] for side in SIDES) for step in steps}
         found = {
             step: fewer_over_both(program, step, tuple(self.lines.values()), least) for step, least in alone.items()
@@ -190,7 +197,8 @@ class Position:
         return {step: length for step, length in found.items() if length is not None}
 
     def cells(self, program: str) -> list[str]:
-        """What the cells of the page's table are called: the shortest are those that take no more than a step over both sides."""
+        """What is pressed in the page's table, row by row: what takes less over both sides than on each alone, and a cell of each side. The shortest
+        are marked: on a side that takes more than a step over both sides none is."""
         names = []
         over = self.over_both(program)
         for group in self.open_steps():
@@ -198,6 +206,9 @@ class Position:
             lengths = [length for length, _, _ in counts.values()] + [over[step] for step in group if step in over]
             least = min(lengths, default=0) if self.keeps(group) else None
             for (step, side), (length, solutions, _) in counts.items():
+                if side == SIDES[0] and step in over:
+                    both = f"{TITLES[step]}, {counted(over[step], 'move')} over both sides"
+                    names.append(f"{both}{', shortest' if over[step] == least else ''}")
                 said = f"{counted(length, 'move')}, {self.in_words(step, side, solutions)}"
                 names.append(f"{TITLES[step]}, {side} side: {said}{', shortest' if length == least else ''}")
         return names

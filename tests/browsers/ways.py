@@ -74,9 +74,11 @@ def rows_of(program: str, scramble: str, found: list[Way]) -> list[list[str]]:
     ]
 
 
-def firsts_of(found: list[Way]) -> list[str]:
-    """What each row says of its reduction."""
-    return [f"then {line}" if (line := line_of(way.dr)) else "" for way in found]
+def then_of(way: Way) -> str:
+    """What a row says of its reduction: its moves, after their number if they are over both sides, and nothing if there are none."""
+    line = line_of(way.dr)
+    number = f"{len(line.split())}: " if all(way.dr) else ""
+    return f"then {number}{line}" if line else ""
 
 
 def state_of(step: str) -> str:

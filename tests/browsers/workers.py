@@ -110,7 +110,7 @@ def late(tally: Tally, browser: Browser) -> None:
     slow = "{ const say = postMessage; self.postMessage = (...words) => setTimeout(() => say(...words), 6000); }"
     opened(browser, slow)
     fails(tally, browser, "a slow engine", SILENCE)
-    tally.holds("and its answers are taken", browser.until("return all('#steps-body .cell').length === 6"))
+    tally.holds("and its answers are taken", browser.until("return all('#steps-body td .cell').length === 6"))
     tally.holds("and the words go", browser.until(MENDED))
     # what the spoilt ones threw
     browser.complaints()

@@ -1,7 +1,7 @@
 // What lines that are compared lead to, by the engine at hand.
 import { positionAfter } from "./position-after.js";
 import { solutionsOf } from "./list-rows.js";
-import { viewsOf, type View } from "./examine.js";
+import { lengthOverBoth, viewsOf, type View } from "./examine.js";
 import {
   bracketed, isOffered, isReduced, openSteps, type OfferedStep, type Part, type Side,
 } from "../shared/offered-steps.js";
@@ -12,8 +12,7 @@ import type { Nissy } from "../../module/nissy.js";
 export type Counts = Map<number, number>;
 /** `steps`: those that follow, a reduction as soon as one may; `first`: the best way on; `total`: all moves. */
 export type Compared = {
-  views: Record<Side, View>; steps: { step: OfferedStep; counts: Record<Side, Counts> }[]; first: BestRow | null;
-  total: number;
+  views: Record<Side, View>; steps: ReturnType<typeof stepAfter>[]; first: BestRow | null; total: number;
 };
 
 /** How many there are on a side of the least length, and of one move more. */
@@ -22,6 +21,12 @@ function countsOf(nissy: Nissy, step: OfferedStep, side: Side, now: string): Cou
   const { solutions } = solutionsOf(nissy, { step: step.name, side, slack: 1 }, now);
   for (const { length } of solutions) counts.set(length, (counts.get(length) ?? 0) + 1);
   return counts;
+}
+
+function stepAfter(nissy: Nissy, step: OfferedStep, now: string) {
+  const counts = { normal: countsOf(nissy, step, "normal", now), inverse: countsOf(nissy, step, "inverse", now) };
+  const alone = [...counts.normal.keys(), ...counts.inverse.keys()];
+  return { step, counts, both: lengthOverBoth(nissy, step.name, now, alone) };
 }
 
 function stepsAfter(reached: string[]) {
@@ -35,9 +40,7 @@ function compared(nissy: Nissy, scramble: string, parts: Part[]): Compared {
   const views = viewsOf(nissy, position);
   const steps = stepsAfter(views.normal.facts.holds.filter(isOffered));
   const [first = null] = steps.length === 0 ? [] : nissy.best(scramble, { soFar: bracketed(parts), most: 1 });
-  const countsOn = (step: OfferedStep, side: Side) => countsOf(nissy, step, side, position.lines.normal);
-  const told = steps.map((step) =>
-    ({ step, counts: { normal: countsOn(step, "normal"), inverse: countsOn(step, "inverse") } }));
+  const told = steps.map((step) => stepAfter(nissy, step, position.lines.normal));
   return { views, steps: told, first, total: position.count };
 }
 

@@ -108,12 +108,17 @@ function countedOn(nissy: Nissy, { name }: OfferedStep, side: Side, { lines, mad
   return { ...count, total, best: totals.filter((each) => each === total).length };
 }
 
+/** The least length of a step over both sides, null if it isn't less. @param alone the lengths on each side alone */
+export function lengthOverBoth(nissy: Nissy, step: Step, now: string, alone: number[]) {
+  const wanted = { sides: "both", limit: Math.min(LONGEST_STEP, ...alone) - 1, most: 1 } as const;
+  return nissy.solve(step, now, wanted).at(0)?.length ?? null;
+}
+
 function offerOf(nissy: Nissy, step: OfferedStep, position: Position, reached: string[]): Offer {
   const [normal, inverse] = SIDES.map((side) => countedOn(nissy, step, side, position));
-  const least = Math.min(normal.length ?? LONGEST_STEP, inverse.length ?? LONGEST_STEP);
-  const wanted = { sides: "both", limit: least - 1, most: 1 } as const;
-  const [fewer] = isReduced(reached) ? [] : nissy.solve(step.name, position.lines.normal, wanted);
-  return { step, normal, inverse, both: fewer?.length ?? null };
+  const alone = [normal, inverse].map(({ length }) => length ?? LONGEST_STEP);
+  const both = isReduced(reached) ? null : lengthOverBoth(nissy, step.name, position.lines.normal, alone);
+  return { step, normal, inverse, both };
 }
 
 /** The steps that may follow a scramble with some parts, which is told before: their tables may have to be built. */

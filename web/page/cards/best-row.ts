@@ -49,8 +49,7 @@ function lengthCell({ part: reduction, length: best, lengths }: Next, side: Side
 
 /** Shows in a row how many of the shortest reductions there are on each side alone, and how the first one goes. */
 export function tellAfter(shown: Element, { next }: Row, after: After) {
-  const [first, line] = [inner(shown, ".first"), next === null ? "" : lineOf(next)];
-  if (line !== "") first.replaceChildren("then ", ...withCases(line, after.passed));
+  if (next) inner(shown, ".first").replaceChildren(...wordsOfFirst(next, after.passed));
   shown.querySelectorAll(".number").forEach((each, at) => {
     const [count, times] = [after[SIDES[at]], inner(each, ".times")];
     if (count === null || times.textContent !== "") return;
@@ -59,13 +58,17 @@ export function tellAfter(shown: Element, { next }: Row, after: After) {
   });
 }
 
-const lineOf = ({ part: reduction }: Next) => bracketed([reduction]);
+/** The moves of a reduction, after its length if it goes over both sides, since no column has that. */
+function wordsOfFirst({ part: reduction, length }: Next, passed: string[]) {
+  const moves = bracketed([reduction]);
+  const best = element("span", { class: "best", title: "over both sides" }, String(length));
+  const before = sidesOf(reduction) === "both" ? [best, ": "] : [];
+  return moves === "" ? [] : ["then ", ...before, ...withCases(moves, passed)];
+}
 
 function firstOf(next: Next) {
-  const moves = lineOf(next);
-  const line = moves === "" ? "" : `then ${moves}`;
-  const first = element("small", { class: "first moves" }, line);
-  first.style.setProperty("--signs", String(line.length + SIGNS_OF_TRIGGER));
+  const first = element("small", { class: "first moves" }, ...wordsOfFirst(next, []));
+  first.style.setProperty("--signs", String(first.textContent.length + SIGNS_OF_TRIGGER));
   return first;
 }
 

@@ -323,10 +323,8 @@ export class BestContinuations {
     const left = this.#filters.count > 0 ? this.#rows(this.#progress).length : this.#progress.count;
     part("best-more").hidden = this.#shown >= left;
     const rows = this.#joining();
-    const kind = rows[0]?.total < this.#seen[0]?.total ? "better" : "more";
     const from = isNarrow() ? "" : `, from ${rows[0]?.total} moves`;
-    const words = rows.length === 0 ? "" : counted(rows.length, `${kind} row`) + from;
-    tell(part("best-new"), words);
+    tell(part("best-new"), rows.length === 0 ? "" : counted(rows.length, "more row") + from);
     part("best-note").textContent = this.#note(this.#progress, left, rows.length > 0);
   }
 

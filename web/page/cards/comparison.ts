@@ -29,8 +29,9 @@ const wordsOf = (counts: Counts) => [...counts].flatMap(([length, count], at) =>
 function followingOf({ steps, views: { normal: { facts } } }: Compared) {
   if (steps.length === 0) return element("p", { class: "note" }, facts.solved ? "" : `${NO_STEP_AFTER_DR}.`);
   const head = SIDES.map((side) => element("th", { scope: "col" }, nameOfSide(side)));
-  const rows = steps.map(({ step, counts }) => element("tr", {},
-    element("th", { scope: "row" }, stateOf(step), element("small", {}, ` ${caseOfStep(facts, step)}`)),
+  const rows = steps.map(({ step, counts, both }) => element("tr", {},
+    element("th", { scope: "row" }, stateOf(step), element("small", {}, ` ${caseOfStep(facts, step)}`),
+      ...(both === null ? [] : [element("small", {}, ` ${both} over both`)])),
     ...SIDES.map((side) => element("td", {}, ...wordsOf(counts[side])))));
   return element("table", {},
     element("thead", {}, element("tr", {}, element("td"), ...head)), element("tbody", {}, ...rows));
@@ -41,8 +42,8 @@ function itemOf({ parts, note, next, goOn }: ComparedLine, compared: Compared) {
   const { solved, holds } = views.normal.facts;
   const reached = solved ? ["solved"] : furthestOf(statesOf(holds.filter(isOffered)));
   const choice = first === null ? "" : stateOf(stepNamed((first.eo ?? first.dr).step));
-  const then = first === null ? []
-    : ["First: ", element("span", { class: "moves" }, first.line), `, ${first.total} in all`];
+  const then = first === null ? [] : ["First: ", element("span", { class: "moves" }, first.line),
+    `, ${stateOf(stepNamed(first.dr.step))}, ${first.total} in all`];
   const close = () => {
     part("comparison").close();
     goOn();

@@ -5,7 +5,7 @@ import { lastOf, present } from "../shared/certain.js";
 import { announce, element, part, spoken, tell } from "../shared/element.js";
 import { emptyNet, showCube, stickerOf } from "./net.js";
 import {
-  SIDES, axisName, bracketed, isReduced, nameOfSide, newlyReached, singleMoves, type Side,
+  SIDES, axisName, bracketed, isOffered, isReduced, nameOfSide, newlyReached, singleMoves, statesOf, type Side,
 } from "../shared/offered-steps.js";
 import { withCases } from "../shared/passage.js";
 import { PIECES, whyOf } from "./why.js";
@@ -16,12 +16,13 @@ const BEAT = 700;
 const BY_KEY: Record<string, number> = { ArrowLeft: -1, PageUp: -1, ArrowRight: 1, PageDown: 1 };
 
 /** The places of the pieces that a choice marks, and what they are called; a choice is `EO F/B` or `DR U/D`. */
-function marksOf({ badEdges, badCorners, misplacedEdges, case: cases }: Facts, choice: string) {
+function marksOf({ badEdges, badCorners, misplacedEdges, case: cases, holds }: Facts, choice: string) {
   const [kind, name] = choice.split(" ");
   const axis = present(AXES.find((each) => axisName(each) === name));
-  const bad = badEdges[axis];
-  if (kind === "EO") return { pieces: bad, words: bad.length === 0 ? "done" : `${bad.length} bad` };
-  return { pieces: [...badCorners[axis], ...misplacedEdges[axis]], words: cases[axis] };
+  const pieces = kind === "EO" ? badEdges[axis] : [...badCorners[axis], ...misplacedEdges[axis]];
+  // a case may have no bad piece before an orientation holds
+  if (statesOf(holds.filter(isOffered)).includes(choice)) return { pieces, words: "done" };
+  return { pieces, words: kind === "EO" ? `${pieces.length} bad` : cases[axis] };
 }
 
 /** Shows a cube on a net, with what a choice marks of it: if that is nothing, in its colours. */

@@ -9,6 +9,7 @@ import type { Facts } from "../../module/shared/facts.js";
 import type { List } from "../state/address.js";
 
 export type Cube = { facts: Facts; made: number; reached: string[] };
+type Opened = { step: OfferedStep; side: List["side"]; said: string; isLeast: boolean };
 
 /** The least length, what that makes in all after moves, how many solutions make that, and a word that is only said. */
 function wordsOfRow({ length, total, solutions, best }: Counted, made: number): string[] {
@@ -43,16 +44,8 @@ const areReductions = ([{ step }]: Offer[]) => step.needs !== null;
 const keepsReached = (offers: Offer[], reached: string[]) =>
   reached.length === 0 || (areReductions(offers) && !isReduced(reached));
 
-const leastOf = (offers: Offer[]) =>
-  Math.min(...offers.flatMap(({ normal, inverse, both }) =>
-    [normal.length, inverse.length, both].map((length) => length ?? Infinity)));
-
-/** The least length over both sides, if that is less than on each alone. @param least of all that may follow */
-function overBoth({ step, both }: Offer, least: number | null) {
-  if (both === null) return [];
-  const title = `${titleOf(step)}, both sides: ${counted(both, "move")}`;
-  return [" ", element("small", { title, class: both === least ? "chip least" : "" }, `${both} over both`)];
-}
+const leastOf = (offers: Offer[]) => Math.min(...offers.flatMap(({ normal, inverse, both }) =>
+  [normal.length, inverse.length, both].map((length) => length ?? Infinity)));
 
 export class StepTable {
   #focused: HTMLElement | null = null;
@@ -98,8 +91,8 @@ export class StepTable {
 
   /** What is said of the offers: the first of the shortest steps that are left, if there is one. */
   summary() {
-    const least = this.#body.querySelector<HTMLElement>(".least");
-    return least ? `Shortest next step: ${(least.ariaLabel ?? least.title).replace(", shortest", "")}.` : "";
+    const least = this.#body.querySelector(".least")?.ariaLabel;
+    return least ? `Shortest next step: ${least.replace(", shortest", "")}.` : "";
   }
 
   /** Gives the focus back that `hold` took: to the same cell or control, or to the heading where that is gone. */
@@ -124,41 +117,50 @@ export class StepTable {
     }
   }
 
-  /** Puts the focus on the first of the shortest steps that are left; of one over both sides on that of its sides. */
+  /** Puts the focus on the first of the shortest steps that are left. */
   focus() {
-    const least = this.#body.querySelector<HTMLElement>(".cell.least, tr:has(.chip.least) .cell");
-    (least ?? part("steps-heading")).focus({ preventScroll: true });
+    (this.#body.querySelector<HTMLElement>(".least") ?? part("steps-heading")).focus({ preventScroll: true });
   }
 
-  /** Presses a cell, if there is one that isn't dimmed. @param at its place among the cells */
+  /** Presses a cell, if there is one that isn't dimmed. @param at its place among those of one side */
   press(at: number) {
-    const cell = this.#body.querySelectorAll("[data-cell]")[at];
+    const cell = this.#body.querySelectorAll("td .cell")[at];
     if (!cell?.closest("[inert]")) cell?.click();
   }
 
   #rows(group: Offer[], cube: Cube) {
-    const least = keepsReached(group, cube.reached) ? leastOf(group) : null;
+    const least = keepsReached(group, cube.reached) ? leastOf(group) : 0;
     // where two orientations hold, each has a way of its own to the same reduction
     const isOneOf = new Set(group.map(({ step }) => step.needs)).size > 1;
     return group.map((offer) => element("tr", { "data-marks": stateOf(offer.step) },
       element("th", { scope: "row" },
         element("span", { class: "axis" }, isOneOf ? titleOf(offer.step) : stateOf(offer.step)),
-        element("small", {}, ` ${caseOfStep(cube.facts, offer.step)}`), ...overBoth(offer, least)),
+        element("small", {}, ` ${caseOfStep(cube.facts, offer.step)}`), ...this.#overBoth(offer, least)),
       ...SIDES.map((side) => this.#cell(offer, side, { least, made: cube.made }))));
   }
 
-  #cell(offer: Offer, side: Side, { least, made }: { least: number | null; made: number }) {
-    const [step, count] = [offer.step, offer[side]];
-    const [length, all, solutions, word] = wordsOfRow(count, made);
-    const name = `${step.name}.${side}`;
-    const isLeast = least !== null && count.length === least;
-    const shortest = isLeast ? ", shortest" : "";
-    return element("td", { "data-side": nameOfSide(side) }, element("button", {
-      type: "button",
-      class: isLeast ? "cell least" : "cell",
-      "data-cell": name,
-      "aria-label": `${titleOf(step)}, ${side} side: ${length}, ${all}${solutions}${word}${shortest}`,
-      click: () => this.chosen(step.name, side),
-    }, element("strong", {}, length), element("small", {}, all, element("span", { class: "together" }, solutions))));
+  #cell({ step, ...counts }: Offer, side: Side, { least, made }: { least: number; made: number }) {
+    const [length, all, solutions, word] = wordsOfRow(counts[side], made);
+    const words = element("small", {}, all, element("span", { class: "together" }, solutions));
+    const [said, isLeast] = [`${side} side: ${length}, ${all}${solutions}${word}`, counts[side].length === least];
+    return element("td", { "data-side": nameOfSide(side) }, this.#opener({ step, side, said, isLeast }, length, words));
+  }
+
+  /** The least length over both sides, if that is less than on each alone. @param least of all that may follow */
+  #overBoth({ step, both }: Offer, least: number) {
+    if (both === null) return [];
+    const [length, words] = [counted(both, "move"), element("small", {}, " over both")];
+    const said = `${length} over both sides`;
+    return [" ", this.#opener({ step, side: "both", said, isLeast: both === least }, length, words)];
+  }
+
+  /** What opens the list of a step on one side, or over both. */
+  #opener({ step, side, said, isLeast }: Opened, length: string, words: HTMLElement) {
+    return element("button", {
+      type: "button", class: isLeast ? "cell least" : "cell", "data-cell": `${step.name}.${side}`,
+      "aria-label": `${titleOf(step)}, ${said}${isLeast ? ", shortest" : ""}`,
+      // the page opens a list over both sides as it does one on a side
+      click: () => this.chosen(step.name, side as Side),
+    }, element("strong", {}, length), words);
   }
 }
