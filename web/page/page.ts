@@ -17,7 +17,7 @@ import { ScrambleField, type ScrambleChange } from "./cards/scramble.js";
 import { SolutionList } from "./cards/solutions.js";
 import {
   ORIENTATIONS, bracketed, isReduced, isReduction, lastSideOf, sideAfter, sidesOf, stateOf, stepNamed, type Part,
-  type Side, type Step,
+  type Step,
 } from "./shared/offered-steps.js";
 import { StepTable, cubeWithOffers, type Cube } from "./cards/step-table.js";
 import {
@@ -345,7 +345,7 @@ export class Page {
     && this.#kept.star(this.#state, part("keep-line"), this.#state.parts, this.#next());
 
   /** @param side of the list, which is opened, or closed if it is open */
-  #open(step: Step, side: Side) {
+  #open(step: Step, side: List["side"]) {
     const { list } = this.#state;
     if (list?.step === step && list.side === side) return this.#changeList(null);
     this.#change({ list: { step, side, slack: list?.slack ?? 0, isAll: list?.isAll ?? false } }, { focusNext: "list" });

@@ -51,7 +51,7 @@ export class StepTable {
   #focused: HTMLElement | null = null;
   #body = part("steps-body");
 
-  constructor(private readonly chosen: (step: Step, side: Side) => void) {}
+  constructor(private readonly chosen: (step: Step, side: List["side"]) => void) {}
 
   /** Dims the offers of the last cube, with all that rests on them, until those of the next one are there. */
   hold() {
@@ -159,8 +159,7 @@ export class StepTable {
     return element("button", {
       type: "button", class: isLeast ? "cell least" : "cell", "data-cell": `${step.name}.${side}`,
       "aria-label": `${titleOf(step)}, ${said}${isLeast ? ", shortest" : ""}`,
-      // the page opens a list over both sides as it does one on a side
-      click: () => this.chosen(step.name, side as Side),
+      click: () => this.chosen(step.name, side),
     }, element("strong", {}, length), words);
   }
 }
