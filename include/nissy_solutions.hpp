@@ -93,7 +93,7 @@ private:
 
     void go_on() {
         if (++at_ < piece_.size() || !more_) return;
-        take_after(std::string(piece_.back().moves));
+        take_after(piece_.back().moves);
     }
 
     const detail::kept_tables::value_type *kept_;

@@ -99,11 +99,11 @@ def has_no_more_stops(tally: Tally, browser: Browser) -> None:
     browser.resize(1280, 900)
     browser.walk(
         tally,
-        "stops from the scramble to the first cell",
+        "stops from the scramble to the first cell, and to the shortest, 4 moves over both sides",
         ("go", SCRAMBLE, {}),
         ("wait_best", {}),
         focus,
         ("tab_to", "eofb.normal", 8, {}),
         ("script", "part('skip').focus()", {}),
-        ("press", Keys.ENTER, {"focus": "eofb.normal"}),
+        ("press", Keys.ENTER, {"focus": "eofb.both"}),
     )

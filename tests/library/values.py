@@ -8,6 +8,7 @@ iterators and threads by many.py, text as solvers write it by written.py, both s
 `N passed, M failed`, and the status is 1 where M isn't 0.
 """
 import ctypes
+import functools
 import itertools
 import sys
 from pathlib import Path
@@ -108,11 +109,8 @@ def searches(tally: Tally) -> None:
         (11, longer[:3], (0, 11)),
     )
     for moves in ("(F)", "x", "M", "Fw", "q"):
-        tally.says(
-            ValueError,
-            "after is no sequence of face turns",
-            lambda moves=moves: nissy.solutions("eofb", "F", after=moves),
-        )
+        left_off = functools.partial(nissy.solutions, "eofb", "F", after=moves)
+        tally.says(ValueError, "after is no sequence of face turns", left_off)
     first = list(itertools.islice(nissy.solutions("eofb", "R U F", slack=9), 3))
     tally.equal("the first of very many", first, nissy.solve("eofb", "R U F", slack=9, most=3))
     tally.holds("many", sum(1 for _ in itertools.islice(nissy.solutions("eofb", "R U F", slack=5), 20_000)) == 20_000)
