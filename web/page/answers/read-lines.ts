@@ -18,6 +18,15 @@ function withoutTurns(cleaned: string) {
   return line;
 }
 
+/** The moves of one side by face turns, if the cube is held so before them, and how it is held after them. */
+function byFaces(nissy: Nissy, held: string, moves: string) {
+  // a fault has its column in the moves
+  const whole = nissy.unniss(held === "" ? moves : `${held} ${moves}`);
+  if (FACE_TURNS.test(whole)) return { moves: whole, held: "" };
+  const cleaned = nissy.cleanup(whole);
+  return { moves: withoutTurns(cleaned), held: cleaned.match(/[xyz][2']?/g)?.join(" ") ?? "" };
+}
+
 /** Cuts a line that was read into runs: what is in brackets goes on the inverse side.
  * @param side where moves without brackets go in a line that has none */
 function runsOf(text: string, side: Side): { side: Side; moves: string }[] {
@@ -42,10 +51,8 @@ export type ReadScramble = { line: string; isTurned: boolean; written: string };
 
 export function readScramble(nissy: Nissy, text: string): ReadScramble {
   const plain = nissy.plainLine(text).line;
-  const whole = nissy.unniss(plain);
-  const cleaned = FACE_TURNS.test(whole) ? whole : nissy.cleanup(whole);
-  const line = withoutTurns(cleaned);
-  const isTurned = line !== cleaned;
+  const { moves: line, held } = byFaces(nissy, "", plain);
+  const isTurned = held !== "";
   return { line, isTurned, written: isTurned ? line : plain.trim().replace(/ +/g, " ") };
 }
 
@@ -54,13 +61,7 @@ type Held = Record<Side, string>;
 
 const UPRIGHT: Held = { normal: "", inverse: "" };
 
-/** The moves of one side by face turns, if the cube is held so before them, and how it is held after them. */
-function byFaces(nissy: Nissy, held: string, moves: string) {
-  const whole = nissy.unniss(`${held} ${moves}`);
-  if (FACE_TURNS.test(whole)) return { moves: whole, held: "" };
-  const cleaned = nissy.cleanup(whole);
-  return { moves: withoutTurns(cleaned), held: cleaned.match(/[xyz][2']?/g)?.join(" ") ?? "" };
-}
+const hasMoves = ({ normal, inverse }: Part) => normal !== "" || inverse !== "";
 
 /** A line of moves, those in brackets on the inverse side, of a cube that is held so. */
 function readHeld(nissy: Nissy, { text, side }: { text: string; side: Side }, before: Held) {
@@ -87,8 +88,7 @@ function named(nissy: Nissy, parts: Part[], held: Held): Part[] {
  * cube, which is left out. */
 export function readByHand(nissy: Nissy, line: { text: string; side: Side }): { parts: Part[]; isTurned: boolean } {
   const { part, held } = readHeld(nissy, line, UPRIGHT);
-  const parts = part.normal === "" && part.inverse === "" ? [] : [part];
-  return { parts, isTurned: SIDES.some((side) => held[side] !== "") };
+  return { parts: hasMoves(part) ? [part] : [], isTurned: SIDES.some((side) => held[side] !== "") };
 }
 
 /** A line that can't be read, and those after it, which aren't read then. */
@@ -109,7 +109,7 @@ function readAllByHand(
     }
     const { part } = read.value;
     held = read.value.held;
-    if (part.normal === "" && part.inverse === "") continue;
+    if (!hasMoves(part)) continue;
     parts.push(part);
     begins.push(each.places[0]);
   }
