@@ -30,8 +30,6 @@ fi
 
 add python3 tests/browsers/files.py "$page"
 
-# what the model works out once is kept for all parts
-export MODEL_CACHE=$room/model
 # Debian's Python has Debian's selenium, whatever other Python comes first
 python=/usr/bin/python3
 is_driven() { ! missing chromedriver && $python -c "import selenium" 2> /dev/null; }

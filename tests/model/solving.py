@@ -3,8 +3,12 @@
 A step is reached where sets of sticker places are kept. The images of such a set under all cubes are numbered as they are
 found; a position is such numbers, and its distance is found level by level from the goal.
 """
+import fcntl
 import os
 from collections.abc import Callable, Iterator, Sequence
+from functools import lru_cache
+from hashlib import sha256
+from pathlib import Path as File
 
 from cube import EFFECTS, PLACES, Effect, Move, Vector
 from notation import TURNS, allowed
@@ -12,8 +16,8 @@ from notation import TURNS, allowed
 AXIS = {"rl": 0, "ud": 1, "fb": 2}
 FARTHEST = 20
 BEYOND = 21
-# Distances of domino reductions are kept in this folder between runs where it is named.
-CACHE = os.environ.get("MODEL_CACHE")
+# of the texts of these the distances of domino reductions are made
+SOURCES = ("cube.py", "notation.py", "solving.py")
 
 
 class TooMuch(Exception):
@@ -127,6 +131,16 @@ def next_level(distance: bytearray, level: list[int], depth: int, tables: Sequen
     return found
 
 
+@lru_cache(None)
+def folder_of_distances() -> File:
+    """Where distances are kept as long as nothing changes of which they are made."""
+    own = File(__file__).resolve().parent
+    name = sha256(b"".join((own / source).read_bytes() for source in SOURCES)).hexdigest()
+    folder = own.parent.parent / "build" / "model" / name[:16]
+    folder.mkdir(parents=True, exist_ok=True)
+    return folder
+
+
 class Orientation:
     """Edges oriented on an axis: positions are flips."""
 
@@ -158,20 +172,16 @@ class Domino:
         self.distance = self.cached("domino-%s-%s-%d" % (axis, turns, self.deepest))
 
     def cached(self, name: str) -> bytes:
-        """The distances, read from the cache where they are there."""
-        path = CACHE and os.path.join(CACHE, name)
-        if path and os.path.exists(path):
-            with open(path, "rb") as file:
-                return file.read()
-        distance = levels(2187 * SLICES, self.tables, self.deepest)
-        if path:
-            os.makedirs(os.path.dirname(path), exist_ok=True)
-            # by another name for each process, since several may work it out at once
-            part = "%s.%d" % (path, os.getpid())
-            with open(part, "wb") as file:
-                file.write(distance)
-            os.replace(part, path)
-        return distance
+        """The distances, which are worked out once for all tests of a checkout: what needs them meanwhile waits."""
+        kept, part = folder_of_distances() / name, folder_of_distances() / f"{name}.part"
+        with open(part, "ab") as file:
+            fcntl.flock(file, fcntl.LOCK_EX)
+            if not kept.exists():
+                file.truncate(0)
+                file.write(levels(2187 * SLICES, self.tables, self.deepest))
+                file.flush()
+                os.link(part, kept)
+        return kept.read_bytes()
 
     def position(self, effect: Effect) -> int:
         """The number of a cube's position."""
