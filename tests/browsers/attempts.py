@@ -67,6 +67,8 @@ ENDS = (
     # by hand: after R U only the edges of F and B are where quarter turns of these don't matter
     ("R U F\nEO: F'", "Not solved: 1 move, EO F/B.", "Line so far"),
     ("R U F\nD // EO\nR", "Not solved: 2 moves.", "Line so far"),
+    # what can't be read may solve it
+    ("R U F\nF' // EO\nU3 R'", "Read in part: 1 move, EO F/B.", "Line so far"),
     ("R U F\nF' // EO\n\nSolution:\nF' U' R'", "The solution solves the scramble. 1 line is kept.", "Line so far"),
     ("R U F\nF' // EO\n\nSolution:\nF' U' R", f"{UNSOLVED} 1 line is kept.", "Line so far"),
     ("R U F\n\nD2\n\nR2\n", "2 lines are kept.", "Kept"),

@@ -8,14 +8,16 @@ import type { Walk } from "../answers/examine.js";
 import type { ReadAttempt } from "../answers/read-lines.js";
 
 /** @param walk of its line, null if it has none */
-function wordsOfAttempt({ kept, solves }: ReadAttempt, walk: Walk | null): string[] {
+function wordsOfAttempt({ kept, solves, unread }: ReadAttempt, walk: Walk | null): string[] {
   const isSolved = walk !== null && lastOf(walk.facts).solved;
   const total = walk === null ? "" : counted(lastOf(walk.totals), "move");
   const reached = walk === null ? [] : furthestOf(statesOf(lastOf(walk.reached)));
+  // what can't be read may solve it
+  const ending = unread === null ? "Not solved" : "Read in part";
   return [
     solves === null || (solves && isSolved) ? "" : `The solution ${solves ? "solves" : "doesn't solve"} the scramble.`,
     isSolved ? `Solved: ${total}.` : "",
-    walk !== null && !isSolved && solves === null ? `Not solved: ${[total, ...reached].join(", ")}.` : "",
+    walk !== null && !isSolved && solves === null ? `${ending}: ${[total, ...reached].join(", ")}.` : "",
     kept.length === 0 ? "" : `${counted(kept.length, "line")} ${kept.length === 1 ? "is" : "are"} kept.`,
   ];
 }
