@@ -195,6 +195,7 @@ def says_how_it_ends(tally: Tally, browser: Browser) -> None:
             f"{text!r}",
             ("script", PASTE, text, {}),
             ("comes", "attempt-words", words, {"attempt-way": way, "n #attempt-words.lost": int(UNSOLVED in words)}),
+            ("hears", words, {}),
             ("act", "#attempt-way", {"focus": f"{'kept' if way == 'Kept' else 'line'}-heading"}),
         )
     for change in (("submit", "own", "R2"), ("fill", "scramble", "R U")):

@@ -192,7 +192,6 @@ export class Page {
       this.#change({ ...line, kept: joined.kept }, { isStep: !isNew });
       tell(part("alert"), whyUnread(read.unread) || joined.why);
       this.#line.take(read, fmc.text);
-      // of a step its line says it, where it can be mended
       if (read.doubted < 0) this.#scramble.tellDoubt(read.doubt);
     } catch (fault) {
       if (turn === this.#turn && !(fault instanceof Stopped)) tell(part("alert"), unanswered(fault));
@@ -310,7 +309,7 @@ export class Page {
     if (isOfList) return;
     const isFinished = isReduced(reached) && this.#state.parts.length > 0;
     if (this.#nextFocus.take("table")) showStart(isFinished, this.#table, stays);
-    else if (!isBare(this.#state)) announceLater(this.#table.summary() || part("finished").textContent);
+    else if (!isBare(this.#state)) announceLater(this.#line.said(this.#table.summary()));
     this.#table.giveBack();
     this.#goBack();
   }

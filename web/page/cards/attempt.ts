@@ -1,7 +1,7 @@
 // What is said of an attempt beside the scramble that it was read with, since on a phone its line stands far below:
 // whether it is solved, what is kept of it and which step is in doubt, with a way there.
 import { lastOf } from "../shared/certain.js";
-import { counted, part } from "../shared/element.js";
+import { announceLater, counted, part } from "../shared/element.js";
 import { furthestOf, statesOf } from "../shared/offered-steps.js";
 import { areBeside, withoutMoving } from "../shared/view.js";
 import type { Walk } from "../answers/examine.js";
@@ -37,7 +37,9 @@ export class AttemptAnswer {
   /** Takes what was read of a text; what the engine says of its line comes by `tell`. */
   take(read: ReadAttempt) {
     this.#read = read;
-    if (read.parts.length === 0) this.#show(read, wordsOfAttempt(read, null));
+    if (read.parts.length > 0) return;
+    this.#show(read, wordsOfAttempt(read, null));
+    if (!part("attempt").hidden) announceLater(part("attempt-words").textContent);
   }
 
   /** @param doubted the place of the step that is in doubt, -1 if none is */
@@ -54,6 +56,7 @@ export class AttemptAnswer {
     const card = part("scramble-card");
     withoutMoving(card.contains(document.activeElement) ? card : part("results"), () => {
       part("attempt").hidden = true;
+      part("attempt-words").textContent = "";
     });
   }
 

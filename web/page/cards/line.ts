@@ -5,7 +5,7 @@ import { thrownError, lastOf } from "../shared/certain.js";
 import { copy, fmcOf, setUps } from "../shared/copying.js";
 import { announce, button, counted, element, inner, part, spoken, tell, type PageElement } from "../shared/element.js";
 import {
-  bracketed, furthestOf, isReduced, lastSideOf, movesOn, newlyReached, onOtherSides, otherSide, saidToBeReached,
+  bracketed, furthestOf, isReduced, joined, lastSideOf, movesOn, newlyReached, onOtherSides, otherSide, saidToBeReached,
   sidesOf, statesOf, type Part, type Side,
 } from "../shared/offered-steps.js";
 import { withCases } from "../shared/passage.js";
@@ -177,7 +177,8 @@ export class LineSoFar {
     tell(part("finished"), endOf(walk, whole));
   }
 
-  /** Takes an attempt that was read of a text, and what makes one doubt a step of it. */
+  /** Takes an attempt that was read of a text, and what makes one doubt a step of it, which says so where it can be
+   * mended. */
   take(read: ReadAttempt, text: string) {
     const { parts, doubt, doubted, undoing } = read;
     if (doubt !== null && doubted >= 0) {
@@ -185,6 +186,9 @@ export class LineSoFar {
     }
     this.#attempt.take(read);
   }
+
+  /** What is said of an attempt, or else of how the line ends. @param next what is said of the steps that may follow */
+  said = (next: string) => joined(part("attempt-words").textContent, next) || part("finished").textContent;
 
   /** What a step reached before it or an earlier one was changed, and what doesn't hold then, nor in the end. */
   #lost({ reached }: Walk, index: number) {
