@@ -57,6 +57,23 @@ OF_A_STEP = (
     ),
     ("R U F\n\nD\nF' // EO U' R' D", "D F'", "moves and a comment may be taken for each other", 1),
 )
+# what is said beside the scramble of a text, and where its button leads: whether all is solved, or what the text calls its solution
+UNSOLVED = "The solution doesn't solve the scramble."
+ENDS = (
+    ("R U F\nF' U' R' // all", "Solved: 3 moves.", "Line so far"),
+    ("R U F\nSolution: F' U' R'", "Solved: 3 moves.", "Line so far"),
+    ("R U F\nSolution: F' U' R", UNSOLVED, "Line so far"),
+    ("Mischung: R U F\nL\u00f6sung (3): F' U' R", UNSOLVED, "Line so far"),
+    # by hand: after R U only the edges of F and B are where quarter turns of these don't matter
+    ("R U F\nEO: F'", "Not solved: 1 move, EO F/B.", "Line so far"),
+    ("R U F\nD // EO\nR", "Not solved: 2 moves.", "Line so far"),
+    # what can't be read may solve it
+    ("R U F\nF' // EO\nU3 R'", "Read in part: 1 move, EO F/B.", "Line so far"),
+    ("R U F\nF' // EO\n\nSolution:\nF' U' R'", "The solution solves the scramble. 1 line is kept.", "Line so far"),
+    ("R U F\nF' // EO\n\nSolution:\nF' U' R", f"{UNSOLVED} 1 line is kept.", "Line so far"),
+    ("R U F\n\nD2\n\nR2\n", "2 lines are kept.", "Kept"),
+    ("R U F\nR U // premoves\nD // EO", "Not solved: 3 moves. In doubt: step 1.", "Line so far"),
+)
 # other texts in doubt: the text, the scramble, what is said, the sign that is marked, and how many stand before it
 DOUBTS = (
     (
@@ -167,6 +184,32 @@ def doubts_steps(tally: Tally, browser: Browser) -> None:
         ("script", PASTE, f"{LONGER}\nR' U F' R L // EO, then NISS\nD' F B' L2 D // DR", {}),
         ("comes", "#line-list .reaches", ["EO R/L", "DR F/B"], {OF_STEPS: [], "scramble-doubt?": False}),
     )
+
+
+def says_how_it_ends(tally: Tally, browser: Browser) -> None:
+    """Beside the scramble stands whether its attempt is solved, or that what it calls its solution isn't one, until anything is changed."""
+    for text, words, way in ENDS:
+        browser.open()
+        browser.walk(
+            tally,
+            f"{text!r}",
+            ("script", PASTE, text, {}),
+            ("comes", "attempt-words", words, {"attempt-way": way, "n #attempt-words.lost": int(UNSOLVED in words)}),
+            ("hears", words, {}),
+            ("act", "#attempt-way", {"focus": f"{'kept' if way == 'Kept' else 'line'}-heading"}),
+        )
+    for change in (("submit", "own", "R2"), ("fill", "scramble", "R U")):
+        browser.open()
+        browser.walk(
+            tally,
+            f"{change}",
+            ("script", PASTE, ENDS[0][0], {}),
+            ("comes", "attempt?", True, {}),
+            (*change, {}),
+            ("comes", "attempt?", False, {}),
+        )
+    browser.open(address_of(LONGER) + "&steps=normal.R")
+    tally.equal("nothing is said of an address", browser.look("attempt?"), False)
 
 
 def answers_each_line(tally: Tally, browser: Browser) -> None:

@@ -1,5 +1,7 @@
 """Lines that are kept beside each other: the cubes of both sides, how many steps follow on each, the first of the best, and notes."""
+import re
 from collections import Counter
+from typing import Any
 
 from best import LONGER, address_of
 from browser import Browser, Keys
@@ -56,6 +58,12 @@ def chooses(browser: Browser, *lines: tuple[str, str]) -> None:
         )
 
 
+def end_of(shown: dict[str, Any]) -> int:
+    """How many moves a line takes in all, with its best way on if it has one."""
+    moves = re.findall(r"(\d+) move", shown["total"])
+    return int([*moves, *re.findall(r"(\d+) in all", " ".join(shown["texts"]))][-1])
+
+
 def beside_each_other(tally: Tally, browser: Browser) -> None:
     """Each has its cube on both sides, what follows it there, the first of the best, and its note."""
     browser.open(address_of(LONGER) + KEPT)
@@ -90,7 +98,7 @@ def beside_each_other(tally: Tally, browser: Browser) -> None:
     tally.equal(
         "the first of the best, and the note",
         shown[line_of(EO)]["texts"],
-        [f"First: {line_of(way.dr)}, {title_of(way)}, {way.total} in all", "six moves"],
+        [f"Best way on: {line_of(way.dr)}, {title_of(way)}, {way.total} in all", "six moves"],
     )
     case = Position(LONGER, *EO).case(way.reduction)
     tally.equal(
@@ -100,6 +108,14 @@ def beside_each_other(tally: Tally, browser: Browser) -> None:
     )
     kept = [f"{side.title()} · DR U/D: {Position(LONGER, *OTHER).case('ud')}" for side in SIDES]
     tally.equal("of one that was kept with a reduction that is marked", shown[line_of(OTHER)]["marks"], kept)
+    ends = {line: end_of(each) for line, each in shown.items()}
+    fewest = [line for line in ends if ends[line] == min(ends.values())]
+    tally.holds(f"some take more than others: {ends}", len(fewest) < len(ends))
+    tally.equal(
+        "which take the fewest",
+        browser.text("comparison-said"),
+        f"They part at the first step. Fewest up to a DR: {min(ends.values())} moves in all, with {', or with '.join(fewest)}.",
+    )
     tally.equal(
         "after a reduction no step follows", shown[line_of(DR)]["texts"], ["nissy has no step after a DR.", "", ""]
     )
@@ -173,6 +189,32 @@ def says_which(tally: Tally, browser: Browser) -> None:
         ("wait", {notes: ["nissy has no step after a DR."] * 2}),
         ("press", Keys.ESCAPE, {}),
     )
+
+
+def says_where_they_part(tally: Tally, browser: Browser) -> None:
+    """It is said with which steps lines begin alike, and which of them takes the fewest moves; what is solved isn't compared with what isn't."""
+    browser.open(
+        "#scramble=L2_U2_R-_F-&kept=normal.F,normal.F~normal.R.inverse.U,normal.F~normal.R_U2_L2,inverse.L2_U2_R-_F-"
+    )
+    browser.until(KEPT_SAID)
+    first, both, solved, other = "F", "F R (U)", "F R U2 L2", "(L2 U2 R' F')"
+    for lines, said in (
+        ((first, both), "They part at step 2, after F. Fewest up to a DR: 1 move in all, with F."),
+        ((both, solved), "They part at step 2, after F."),
+        ((solved, other), "They part at the first step. All take as many: 4 moves in all."),
+    ):
+        for pressed in ("true", "false"):
+            for line in lines:
+                press = f"{COMPARE}.find((each) => each.dataset.control === 'compare ' + arguments[0]).click()"
+                browser.script(press, line)
+            if pressed == "true":
+                browser.walk(
+                    tally,
+                    f"{lines}",
+                    ("click", "#kept-compare", {}),
+                    ("until", "return document.querySelector('#comparison').open", {"comparison-said": said}),
+                    ("press", Keys.ESCAPE, {}),
+                )
 
 
 def says_nothing_of_no_steps(tally: Tally, browser: Browser) -> None:

@@ -316,6 +316,23 @@ def has_headings(tally: Tally, browser: Browser) -> None:
         )
 
 
+def keep_their_columns(tally: Tally, browser: Browser) -> None:
+    """Each card has its column and width, whatever the line reaches: nothing jumps from one to the other at a reduction, nor once that is undone."""
+    columns = """return ['scramble-card', 'cube', 'line', 'steps', 'kept'].map((name) => {
+        const { left, right } = part(name).getBoundingClientRect();
+        return [name, Math.round(left), Math.round(right)];
+    })"""
+    kept = "&kept=normal.R-_U_F-_R_L"
+    lines = ("", "&steps=inverse.B_D_R_F2_B_D", "&steps=inverse.B_D_R_F2_B_D~normal.R_B-_D2_R")
+    for width in (960, 1180, 1440, 1920):
+        browser.resize(width, 900)
+        seen = []
+        for line in (*lines, *lines[1::-1]):
+            browser.go(SCRAMBLE + line + kept)
+            seen.append(browser.script(columns))
+        tally.equal(f"{width}: columns with and without a reduction", seen, seen[:1] * len(seen))
+
+
 def places(tally: Tally, browser: Browser) -> None:
     """After a step what follows is in view, and the line; after the last one the line and how it ends are."""
     table = "return part('steps-table').getBoundingClientRect().top"
@@ -362,7 +379,4 @@ def places(tally: Tally, browser: Browser) -> None:
             "bracketed",
             *(() if is_narrow else ("joined", "copy-fmc", "net-normal", "net-inverse")),
         )
-        beside = """const [line, steps] = ['line', 'steps'].map((name) => part(name).getBoundingClientRect());
-            return line.left > steps.right && line.width > steps.width"""
-        tally.equal(f"{width}: the line has the wider column, if there are two", browser.script(beside), not is_narrow)
         tally.equal(f"{width}: parts with a scroll area", browser.script(inner), 0)

@@ -87,6 +87,36 @@ def leads_back(tally: Tally, browser: Browser) -> None:
     )
 
 
+def answers_where_one_pasted(tally: Tally, browser: Browser) -> None:
+    """What becomes of an attempt is seen where it was pasted, without a scroll, and a tap leads to its line; that stays where it is once a step of it is
+    edited, after which nothing more is said."""
+    text = f"{LONGER}\nR' U F' R L // EO\nD' F B' L2 D // DR"
+    box = "const { top, bottom } = part(arguments[0]).getBoundingClientRect(); return top >= arguments[1] && bottom <= arguments[2]"
+    paste = "part('scramble').focus();" + WAYS["a text that is pasted"]
+    for width, height in ((390, 844), (360, 740)):
+        browser.resize(width, height, True)
+        browser.open()
+        browser.walk(
+            tally,
+            f"{width}",
+            ("script", paste, text, {}),
+            ("comes", "attempt-words", "Not solved: 10 moves, DR F/B.", {"return scrollY": 0, "focus": "scramble"}),
+            ("wait_best", {}),
+        )
+        # above what a keyboard covers
+        tally.holds(f"{width}: it is in view", browser.script(box, "attempt", 0, height / 2))
+        tap(browser, "#attempt-way")
+        tally.holds(f"{width}: it leads to the line", browser.comes("focus", "line-heading"))
+        tally.holds(f"{width}: which is in view", browser.script(box, "line-heading", 0, height / 3))
+        top = browser.script(TOP, "#line")
+        browser.script("part('line-list').querySelector('li:last-child .acts button:nth-child(3)').click()")
+        tally.holds(f"{width}: another line", browser.comes("bracketed", "R' U F' R L (D' F B' L2 D)"))
+        browser.wait_best()
+        tally.equal(f"{width}: of which nothing is said", browser.look("attempt?"), False)
+        moved = browser.script(TOP, "#line") - top
+        tally.holds(f"{width}: the line stays where it is: {moved}", abs(moved) < 3)
+
+
 def undoes(tally: Tally, browser: Browser) -> None:
     """Whoever undoes a step comes back to the row that it was taken from, among the best or in its list, and keeps what was starred."""
     row = """const { top, bottom } = document.querySelector('.take.seen')?.getBoundingClientRect() ?? {};

@@ -88,7 +88,7 @@ class Sheet:
         choice = "" if first is None else state_of(f"eo{first.axis}" if any(first.eo) else first.step)
         marks = [marked(at.lines[side], choice) if choice else ["", []] for side in SIDES]
         captions = [[f"{side.title()}{said}", bad] for side, (said, bad) in zip(SIDES, marks)]
-        said = f"First: {bracketed(first.eo, first.dr)}, {title_of(first)}, {first.total} in all" if first else ""
+        said = f"Best way on: {bracketed(first.eo, first.dr)}, {title_of(first)}, {first.total} in all" if first else ""
         texts = [*([] if rows else ["nissy has no step after a DR."]), said, kept.note]
         total = ", ".join([counted(at.in_all(), "move"), *newly([], states(at))])
         return [bracketed(*kept.line.steps), total, [at.letters(side) for side in SIDES], captions, rows, texts]

@@ -17,6 +17,8 @@ TYPED: tuple[tuple[str, list[str]], ...] = (
 )
 # turns of opposite faces change nothing by their order; of these the lists have U, R or F first
 OPPOSITE = (("D2 U", ["U", "D2"]), ("B2F2", ["F2", "B2"]), ("R' L2", ["R'", "L2"]), ("L2 R' U", ["R'", "L2", "U"]))
+# reaches an orientation of that scramble
+EO = "D2 R2 L U"
 TYPE = "const it = part('filter'); it.value = arguments[0]; it.dispatchEvent(new Event('input'))"
 
 
@@ -194,6 +196,26 @@ def filters(tally: Tally, browser: Browser) -> None:
 OVER = "return all('#steps-body tr:not(.anew) th').map((each) => [...each.querySelectorAll('.cell')].map((one) => one.textContent))"
 LEAST = "return all('#steps-body .least').map((each) => each.dataset.cell)"
 PRESSED = "return all('#steps-body [aria-pressed=true]').map((each) => each.dataset.cell)"
+
+
+def says_what_holds(tally: Tally, browser: Browser) -> None:
+    """Of a cube that has an orientation it is never said that one is needed, also as long as the steps that may follow it aren't there yet."""
+    seen = """window.said = [];
+        new MutationObserver(() => window.said.push([part('reached').checkVisibility(), part('no-reduction').checkVisibility()]))
+            .observe(part('reached'), { attributes: true, childList: true })"""
+    # what is there is shown at once, however soon all of it comes
+    script = browser.before_page(
+        """const { setTimeout: begin } = window;
+        window.setTimeout = (act, after, ...words) => begin(act, after === 50 ? 0 : after, ...words)"""
+    )
+    browser.open(ADDRESS)
+    browser.script(seen)
+    browser.submit("own", EO)
+    browser.until("return window.said.some(([isReached]) => isReached)")
+    browser.wait()
+    said = browser.script("return window.said")
+    tally.equal("an EO that holds, and that one is needed", [each for each in said if all(each)], [])
+    browser.no_longer(script)
 
 
 def says_over_both(tally: Tally, browser: Browser) -> None:

@@ -4,6 +4,7 @@ import re
 
 from browser import Browser, Keys
 from looks import KEPT, SCRAMBLE, is_legible
+from marks import contrast
 from sighted import MARKED, marked
 from steps import EXAMPLE
 from tally import Tally
@@ -13,6 +14,18 @@ STICKERS = "all('#net-normal .sticker')"
 BAD = f"return [...{STICKERS}].flatMap((each, at) => each.matches('.bad') ? [at] : [])"
 PRESS = f"""{STICKERS}[arguments[0]].dispatchEvent(new MouseEvent('click', {{ bubbles: true }}));
     return part('why').textContent"""
+# of each net the stickers whose middle is within a line round them, and what its name says of that
+OUTLINED = """return ['normal', 'inverse'].map((side) => {
+        const net = document.querySelector(`#net-${side} svg`), line = net.querySelector('.asked');
+        const within = all(`#net-${side} .sticker`).flatMap((each, at) => {
+            const { e, f } = each.transform.baseVal.consolidate().matrix;
+            return line.isPointInFill(new DOMPoint(e + 5, f + 5)) ? [at] : [];
+        });
+        return [within, /(?<=; )[^;]* is outlined/.exec(net.ariaLabel)?.[0] ?? ''];
+    })"""
+# the colours of the line and of what is behind it, and how many times wider it is than any other line of a sticker
+LINES = """const [line, rect] = ['.asked', '.bad rect'].map((name) => getComputedStyle(document.querySelector(`#net-normal ${name}`)));
+    return [line.stroke, getComputedStyle(part('cube')).backgroundColor, parseFloat(line.strokeWidth) / parseFloat(rect.strokeWidth)]"""
 EDGE_PLACES = (1, 3, 5, 7)
 CHOICES = ("EO F/B", "EO R/L", "EO U/D", "DR U/D", "DR R/L", "DR F/B")
 COVERED = """return seen('.take').map((each) =>
@@ -23,6 +36,11 @@ MADE = "#shown-line [aria-current=true]"
 LABELS = "return all('#choices :is(.take, .star)').map((each) => each.ariaLabel)"
 # a turn as it is said; the axes of a case, such as F/B, are none
 TURN = r"\b[UDRLFB](?:2|\b(?!/))(?<!/.)"
+
+
+def channels(colour: str) -> list[int]:
+    """The parts of a colour as a browser writes it."""
+    return [int(part) for part in re.findall(r"\d+", colour)]
 
 
 def tells_why(tally: Tally, browser: Browser) -> None:
@@ -84,6 +102,29 @@ def tells_why(tally: Tally, browser: Browser) -> None:
         browser.script(PRESS, 23),
         f"Normal: UF at FR is bad for DR U/D: it belongs outside the slice, {why}.",
     )
+
+
+def outlines(tally: Tally, browser: Browser) -> None:
+    """The piece of which it is told why has a line round each of its stickers, on each net that is told of, and the net's name says so."""
+    for colours in ("light", "dark"):
+        browser.media(prefers_color_scheme=colours)
+        browser.open("#scramble=F")
+        browser.choose("marks", "EO F/B")
+        tally.equal(f"{colours}: none is asked for", browser.script(OUTLINED), [[[], ""]] * 2)
+        browser.script(PRESS, 7)
+        tally.equal(f"{colours}: a sticker of UF", browser.script(OUTLINED), [[[7, 19], "UF is outlined"], [[], ""]])
+        around, ground, least = browser.script(LINES)
+        tally.holds(f"{colours}: it is seen: {around} on {ground}", contrast(channels(around), channels(ground)) >= 3)
+        tally.holds(f"{colours}: it is wider than others: {least}", least >= 2)
+        browser.choose("piece", "8")
+        tally.equal(f"{colours}: a corner", browser.script(OUTLINED), [[[8, 9, 20], "URF is outlined"]] * 2)
+        browser.script("part('play-back').click()")
+        browser.choose("piece", "")
+        tally.equal(f"{colours}: none any more", browser.script(OUTLINED), [[[], ""]] * 2)
+    browser.script(PRESS, 7)
+    browser.walk(tally, "nor on another cube", ("submit", "own", "R", {}), ("comes", "steps", 1, {}))
+    tally.equal("none there", browser.script(OUTLINED), [[[], ""]] * 2)
+    browser.media(prefers_color_scheme="light")
 
 
 def covers(tally: Tally, browser: Browser) -> None:

@@ -25,7 +25,7 @@ import {
   withoutMoving,
 } from "./shared/view.js";
 import { tellFailed } from "./shared/watch.js";
-import { titleOfPage, unanswered, whyNotListed, whyUnread, wordsOfDoubt } from "./shared/words.js";
+import { titleOfPage, unanswered, whyNotListed, whyUnread } from "./shared/words.js";
 import type { Examined, Offer } from "./answers/examine.js";
 import type { Reader } from "./shared/reader.js";
 import type { Row } from "./cards/finder.js";
@@ -185,15 +185,14 @@ export class Page {
     if (!fmc) return;
     const turn = this.#turn;
     try {
-      const { unread, parts, kept, doubt, doubted, undoing } = await this.#byHand.ask("readWritten", fmc);
+      const read = await this.#byHand.ask("readWritten", fmc);
       if (turn !== this.#turn) return;
-      const joined = withOthers(this.#state.kept, asCopied(kept, fmc.copied ?? [], this.#state.kept));
-      const line = parts.length > 0 ? { parts, side: lastSideOf(lastOf(parts)) } : {};
+      const joined = withOthers(this.#state.kept, asCopied(read.kept, fmc.copied ?? [], this.#state.kept));
+      const line = read.parts.length > 0 ? { parts: read.parts, side: lastSideOf(lastOf(read.parts)) } : {};
       this.#change({ ...line, kept: joined.kept }, { isStep: !isNew });
-      tell(part("alert"), whyUnread(unread) || joined.why);
-      // once, if it can be mended
-      if (doubt === null || doubted < 0) this.#scramble.tellDoubt(doubt);
-      else this.#line.doubt(doubted, wordsOfDoubt(doubt, fmc.text, { turns: parts[doubted].normal, undoing }));
+      tell(part("alert"), whyUnread(read.unread) || joined.why);
+      this.#line.take(read, fmc.text);
+      if (read.doubted < 0) this.#scramble.tellDoubt(read.doubt);
     } catch (fault) {
       if (turn === this.#turn && !(fault instanceof Stopped)) tell(part("alert"), unanswered(fault));
     }
@@ -310,7 +309,7 @@ export class Page {
     if (isOfList) return;
     const isFinished = isReduced(reached) && this.#state.parts.length > 0;
     if (this.#nextFocus.take("table")) showStart(isFinished, this.#table, stays);
-    else if (!isBare(this.#state)) announceLater(this.#table.summary() || part("finished").textContent);
+    else if (!isBare(this.#state)) announceLater(this.#line.said(this.#table.summary()));
     this.#table.giveBack();
     this.#goBack();
   }

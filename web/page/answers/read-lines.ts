@@ -4,6 +4,7 @@
 import { NissyFault, type FaultParts } from "../../module/shared/faults.js";
 import { MOST_MOVES } from "../state/limits.js";
 import { SIDES, bracketed, joined, type Part, type Side } from "../shared/offered-steps.js";
+import type { Attempt } from "../../module/text/attempts.js";
 import type { Candidate } from "../state/address.js";
 import type { Copied } from "../state/kept-lines.js";
 import type { Nissy } from "../../module/nissy.js";
@@ -119,10 +120,22 @@ function readAllByHand(
 /** A text as solvers write it, and which of its attempts is meant; `copied`: what it was a copy of, before edits. */
 export type Written = { text: string; at: number; copied?: Copied[] };
 
+/** Whether the words before the solution of an attempt call it that: then they do so below another candidate too. */
+function isCalledSolution(nissy: Nissy, text: string, { scramble, solution }: Attempt) {
+  const [last, begin] = [scramble.places.at(-1), solution?.places[0]];
+  if (last === undefined || begin === undefined) return false;
+  const [{ solution: found }] = nissy.readAttempts(`R2 U2\n\nD2\n\n${text.slice(last + 1, begin)}L2`);
+  return /^\(?L2\)?$/.test(found?.line ?? "");
+}
+
+/** `solves`: whether what the text calls its solution does, null if nothing is, or if that can't be told. */
+export type ReadAttempt = ReturnType<typeof readWritten>;
+
 /** The steps and the candidates of an attempt, the first line of it that can't be read, if any, what makes one doubt
  * how it was read, which step is in doubt, or -1, and what undoes that on the normal side. */
 export function readWritten(nissy: Nissy, { text, at }: Written) {
-  const { attempt: { scramble, steps, candidates }, doubt } = nissy.checkAttempts(text)[at];
+  const { attempt, check, doubt } = nissy.checkAttempts(text)[at];
+  const { scramble, steps, candidates } = attempt;
   const scrambled = readOrFault(() => byFaces(nissy, "", scramble.line));
   // a scramble that can't be read is told of by itself
   const held = { ...UPRIGHT, normal: "value" in scrambled ? scrambled.value.held : "" };
@@ -137,6 +150,7 @@ export function readWritten(nissy: Nissy, { text, at }: Written) {
     unread: [unread, ...read.map((each) => each.unread)].find((each) => each !== null) ?? null,
     doubt,
     doubted,
+    solves: check !== null && isCalledSolution(nissy, text, attempt) ? check.solved : null,
     undoing: nissy.invert(parts[doubted]?.normal ?? ""),
   };
 }

@@ -103,7 +103,6 @@ export class BestContinuations {
   /** Shows the card, or hides it, before there are rows: so nothing moves when they come. */
   expect(reached: string[], isBare: boolean) {
     part("best").hidden = isBare || isReduced(reached);
-    document.body.classList.toggle("reduced", !isBare && isReduced(reached));
     this.#room.classList.toggle("of-reductions", reached.length > 0);
   }
 

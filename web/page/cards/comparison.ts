@@ -42,7 +42,7 @@ function itemOf({ parts, note, next, goOn }: ComparedLine, compared: Compared) {
   const { solved, holds } = views.normal.facts;
   const reached = solved ? ["solved"] : furthestOf(statesOf(holds.filter(isOffered)));
   const choice = first === null ? "" : stateOf(stepNamed((first.eo ?? first.dr).step));
-  const then = first === null ? [] : ["First: ", element("span", { class: "moves" }, first.line),
+  const then = first === null ? [] : ["Best way on: ", element("span", { class: "moves" }, first.line),
     `, ${stateOf(stepNamed(first.dr.step))}, ${first.total} in all`];
   const close = () => {
     part("comparison").close();
@@ -58,7 +58,32 @@ function itemOf({ parts, note, next, goOn }: ComparedLine, compared: Compared) {
     button("Go on", { class: "quiet", "aria-label": `Go on: ${spoken(bracketed(parts))}`, click: close }));
 }
 
+const movesOf = (parts: Part[]) => element("span", { class: "moves" }, bracketed(parts));
+
+/** At which step the lines part, and what they begin with. */
+function partingOf([{ parts }, ...others]: ComparedLine[]) {
+  const isAlike = (each: Part, at: number) => others.every((other) =>
+    bracketed(other.parts.slice(at, at + 1)) === bracketed([each]));
+  const count = [...parts, null].findIndex((each, at) => each === null || !isAlike(each, at));
+  if (count === 0) return ["They part at the first step. "];
+  return [`They part at step ${count + 1}, after `, movesOf(parts.slice(0, count)), ". "];
+}
+
+/** Which lines take the fewest moves, each with its best way on; what is solved is none of those that go on. */
+function fewestOf(lines: ComparedLine[], told: Compared[]) {
+  const ends = lines.map(({ next }, at) => (next ?? told[at].first)?.total ?? told[at].total);
+  const [isSolved, ...others] = told.map(({ views }) => views.normal.facts.solved);
+  if (others.some((other) => other !== isSolved)) return [];
+  const least = Math.min(...ends);
+  const shortest = lines.filter((_, at) => ends[at] === least);
+  const moves = `${isSolved ? "" : " up to a DR"}: ${counted(least, "move")}`;
+  if (shortest.length === lines.length) return [`All take as many${moves} in all.`];
+  return [`Fewest${moves} in all, with `,
+    ...shortest.flatMap(({ parts }, at) => [at === 0 ? "" : ", or with ", movesOf(parts)]), "."];
+}
+
 export function compare(lines: ComparedLine[], told: Compared[]) {
+  part("comparison-said").replaceChildren(...partingOf(lines), ...fewestOf(lines, told));
   inner(part("comparison"), ".note").hidden = told.every(({ steps }) => steps.length === 0);
   part("comparison-lines").replaceChildren(...lines.map((line, at) => itemOf(line, told[at])));
   part("comparison").showModal();

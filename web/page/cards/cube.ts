@@ -3,13 +3,15 @@ import { AXES, type Facts } from "../../module/shared/facts.js";
 import { stickersOf } from "../../module/shared/stickers.js";
 import { lastOf, present } from "../shared/certain.js";
 import { announce, element, part, spoken, tell } from "../shared/element.js";
-import { emptyNet, showCube, stickerOf } from "./net.js";
+import { emptyNet, outline, showCube, stickerOf } from "./net.js";
 import {
   SIDES, axisName, bracketed, isOffered, isReduced, nameOfSide, newlyReached, singleMoves, statesOf, type Side,
 } from "../shared/offered-steps.js";
 import { withCases } from "../shared/passage.js";
 import { PIECES, whyOf } from "./why.js";
 import type { View, Walk } from "../answers/examine.js";
+
+type Asked = typeof PIECES[number] | "";
 
 const FOLLOW = "follow";
 const BEAT = 700;
@@ -25,12 +27,15 @@ function marksOf({ badEdges, badCorners, misplacedEdges, case: cases, holds }: F
   return { pieces, words: kind === "EO" ? `${pieces.length} bad` : cases[axis] };
 }
 
-/** Shows a cube on a net, with what a choice marks of it: if that is nothing, in its colours. */
-export function showMarked(net: SVGElement, side: Side, { letters, facts }: View, choice: string) {
+/** Shows a cube on a net, with what a choice marks of it: if that is nothing, in its colours.
+ * @param asked of which piece it is told why, or "" */
+export function showMarked(net: SVGElement, side: Side, { letters, facts }: View, choice: string, asked: Asked = "") {
   const marks = choice === "" ? null : marksOf(facts, choice);
   const words = marks === null ? "" : `${choice}: ${marks.words}`;
   const names = marks === null ? "" : `, ${marks.pieces.join(" ") || "none"}`;
-  const title = `The cube on the ${side} side${words === "" ? "" : `; ${words}${names}`}`;
+  const outlined = asked === "" ? "" : `; ${asked} is outlined`;
+  const title = `The cube on the ${side} side${words === "" ? "" : `; ${words}${names}`}${outlined}`;
+  outline(net, asked === "" ? [] : stickersOf([asked]));
   showCube(net, letters, title, marks === null || marks.pieces.length === 0 ? null : new Set(stickersOf(marks.pieces)));
   return words === "" ? "" : ` · ${words}`;
 }
@@ -67,7 +72,7 @@ export class Nets {
   #open = "";
   #pointed = "";
   /** what is seen */ #drawn: unknown[] = [];
-  /** of which sides it is said why a piece is bad */ #asked: readonly Side[] = SIDES;
+  /** of which sides it is said why a piece is bad, and on which it is outlined */ #asked: readonly Side[] = SIDES;
   #choice = part("marks");
   #play = part("play");
 
@@ -80,7 +85,7 @@ export class Nets {
     part("piece").append(...PIECES.map((name) => element("option", { value: stickersOf([name])[0] }, name)));
     part("piece").addEventListener("change", () => {
       this.#asked = SIDES;
-      this.#tellWhy();
+      this.#draw();
     });
     part("cube-large").addEventListener("click", () => this.#enlarge(!part("cube").matches(".large")));
     document.addEventListener("keydown", (event) => this.#typed(event));
@@ -126,17 +131,19 @@ export class Nets {
     const at = PIECES.findIndex((name) => stickersOf([name]).includes(sticker));
     part("piece").selectedIndex = at + 1;
     this.#asked = [side];
-    this.#tellWhy();
+    this.#draw();
   }
+
+  #piece = (): Asked => PIECES[part("piece").selectedIndex - 1] ?? "";
 
   /** Says of the piece that is asked for why it is bad, or good, on the cube that is shown. */
   #tellWhy() {
-    const piece = PIECES[part("piece").selectedIndex - 1];
+    const piece = this.#piece();
     const { views, choice } = this.#shown();
-    const why = (side: Side) => whyOf(views[side].letters, piece, choice);
-    const words = piece ? this.#asked.map((side) => `${nameOfSide(side)}: ${why(side)}`).join(" ") : "";
+    const words = piece === "" ? [] : this.#asked.map((side) =>
+      `${nameOfSide(side)}: ${whyOf(views[side].letters, piece, choice)}`);
     // what stays as it was isn't said again
-    if (words !== part("why").textContent) tell(part("why"), words);
+    if (words.join(" ") !== part("why").textContent) tell(part("why"), words.join(" "));
   }
 
   #enlarge(isLarge: boolean) {
@@ -225,12 +232,14 @@ export class Nets {
     if (this.#views === null) return;
     const { views, choice } = this.#shown();
     // what the focus and an open list mark is the same, and each of the stickers would have its style once more
-    const drawn = [views, choice, this.#at, this.#frames];
+    const piece = this.#piece();
+    const drawn = [views, choice, this.#at, this.#frames, piece, this.#asked];
     if (drawn.every((each, at) => each === this.#drawn[at])) return;
     this.#drawn = drawn;
     const { made } = this.#looks[this.#at];
     for (const side of SIDES) {
-      part(`marked-${side}`).textContent = showMarked(this.#nets[side], side, views[side], choice);
+      const asked = this.#asked.includes(side) ? piece : "";
+      part(`marked-${side}`).textContent = showMarked(this.#nets[side], side, views[side], choice, asked);
     }
     const { move = "", total = this.#total } = this.#frames?.[made] ?? {};
     part("played").textContent = `${total} of ${this.#total}${move === "" ? "" : `: ${move}`}`;

@@ -1,16 +1,18 @@
 // The card of the line so far: its steps, which may be edited or taken away, moves by hand, and the whole to copy.
 import { Stopped } from "../../module/shared/faults.js";
+import { AttemptAnswer } from "./attempt.js";
 import { thrownError, lastOf } from "../shared/certain.js";
 import { copy, fmcOf, setUps } from "../shared/copying.js";
 import { announce, button, counted, element, inner, part, spoken, tell, type PageElement } from "../shared/element.js";
 import {
-  bracketed, furthestOf, isReduced, lastSideOf, movesOn, newlyReached, onOtherSides, otherSide, saidToBeReached,
+  bracketed, furthestOf, isReduced, joined, lastSideOf, movesOn, newlyReached, onOtherSides, otherSide, saidToBeReached,
   sidesOf, statesOf, type Part, type Side,
 } from "../shared/offered-steps.js";
 import { withCases } from "../shared/passage.js";
-import { NO_STEP_AFTER_DR, showFault, wordsOfLeftOut, wordsOfTurns } from "../shared/words.js";
+import { NO_STEP_AFTER_DR, showFault, wordsOfDoubt, wordsOfLeftOut, wordsOfTurns } from "../shared/words.js";
 import type { Calls } from "../shared/questions.js";
 import type { Reader } from "../shared/reader.js";
+import type { ReadAttempt } from "../answers/read-lines.js";
 import type { Walk } from "../answers/examine.js";
 
 const LONGEST_PASTED = 65536;
@@ -81,6 +83,7 @@ export class LineSoFar {
   #words: Record<"moves" | "reaches" | "lost" | "count" | "otherwise" | "doubt", PageElement>[] = [];
   #side: Side = "normal";
   #doubt: { index: number; words: string } | null = null;
+  #attempt = new AttemptAnswer();
 
   constructor(private readonly calls: Calls, private readonly reader: Reader, private readonly acts: LineActs) {
     part("own-form").addEventListener("submit", (event) => {
@@ -123,6 +126,7 @@ export class LineSoFar {
   hold(parts: Part[]) {
     this.#reached = this.#wanted ?? keptOf(this.#reached, this.#parts, parts);
     [this.#wanted, this.#doubt] = [null, null];
+    this.#attempt.leave();
     this.#parts = parts;
   }
 
@@ -166,15 +170,25 @@ export class LineSoFar {
     });
     // what reaches something with each step is meant as it is read
     const isRead = this.#words.every((_, index) => newlyReached(walk, index).length > 0);
-    if (this.#doubt && !isRead) tell(this.#words[this.#doubt.index].doubt, this.#doubt.words);
+    const doubt = isRead ? null : this.#doubt;
+    if (doubt) tell(this.#words[doubt.index].doubt, doubt.words);
+    this.#attempt.tell(walk, doubt?.index ?? -1);
     part("set-ups").replaceChildren(...setUps(walk.now.lines));
     tell(part("finished"), endOf(walk, whole));
   }
 
-  /** Takes what makes one doubt a step that was read of a text. */
-  doubt(index: number, words: string) {
-    this.#doubt = { index, words };
+  /** Takes an attempt that was read of a text, and what makes one doubt a step of it, which says so where it can be
+   * mended. */
+  take(read: ReadAttempt, text: string) {
+    const { parts, doubt, doubted, undoing } = read;
+    if (doubt !== null && doubted >= 0) {
+      this.#doubt = { index: doubted, words: wordsOfDoubt(doubt, text, { turns: parts[doubted].normal, undoing }) };
+    }
+    this.#attempt.take(read);
   }
+
+  /** What is said of an attempt, or else of how the line ends. @param next what is said of the steps that may follow */
+  said = (next: string) => joined(part("attempt-words").textContent, next) || part("finished").textContent;
 
   /** What a step reached before it or an earlier one was changed, and what doesn't hold then, nor in the end. */
   #lost({ reached }: Walk, index: number) {

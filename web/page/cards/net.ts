@@ -39,8 +39,15 @@ export function emptyNet() {
   const sticker = emptySticker();
   const viewBox = `-1 -1 ${distanceOf(12)} ${distanceOf(9)}`;
   const net = shape("svg", { viewBox, preserveAspectRatio: "xMinYMid", role: "img", class: "net" });
-  net.append(...NET.map((place) => copiedTo(place, sticker)));
+  // above all stickers, so that none of them hides a part of it
+  net.append(...NET.map((place) => copiedTo(place, sticker)), shape("path", { class: "asked" }));
   return net;
+}
+
+/** Draws a line round some stickers, and round no others. */
+export function outline(net: SVGElement, places: number[]) {
+  const round = places.map((place) => `M${distanceOf(NET[place].column)} ${distanceOf(NET[place].row)}h10v10h-10z`);
+  inner(net, ".asked").setAttribute("d", round.join(""));
 }
 
 /** In which of a net's stickers an element is; -1 if in none. */

@@ -69,6 +69,7 @@ export class StepTable {
     part("reached").hidden = states.length === 0;
     part("reached").replaceChildren(...(states.length === 0 ? [] : ["Reached: "]), ...states.flatMap((state) =>
       [element("span", { class: "chip", "data-marks": state }, state), " "]));
+    part("no-reduction").hidden = reached.length > 0;
     const isOver = isReduced(reached) && !solved;
     if (part("steps-anew").hidden === isOver) part("steps-fold").open = !isOver;
     tell(part("steps-anew"), isOver ? wordsOfAnew("DR") : "");
@@ -83,7 +84,6 @@ export class StepTable {
     this.#body.replaceChildren(...groups.flatMap((group) =>
       [...(group === anew ? [heading] : []), ...this.#rows(group, cube)]));
     this.mark(list);
-    part("no-reduction").hidden = cube.reached.length > 0;
     part("steps-table").hidden = groups.length === 0;
   }
 

@@ -1,0 +1,71 @@
+// What is said of an attempt beside the scramble that it was read with, since on a phone its line stands far below:
+// whether it is solved, what is kept of it and which step is in doubt, with a way there.
+import { lastOf } from "../shared/certain.js";
+import { announceLater, counted, part } from "../shared/element.js";
+import { furthestOf, statesOf } from "../shared/offered-steps.js";
+import { areBeside, withoutMoving } from "../shared/view.js";
+import type { Walk } from "../answers/examine.js";
+import type { ReadAttempt } from "../answers/read-lines.js";
+
+/** @param walk of its line, null if it has none */
+function wordsOfAttempt({ kept, solves, unread }: ReadAttempt, walk: Walk | null): string[] {
+  const isSolved = walk !== null && lastOf(walk.facts).solved;
+  const total = walk === null ? "" : counted(lastOf(walk.totals), "move");
+  const reached = walk === null ? [] : furthestOf(statesOf(lastOf(walk.reached)));
+  // what can't be read may solve it
+  const ending = unread === null ? "Not solved" : "Read in part";
+  return [
+    solves === null || (solves && isSolved) ? "" : `The solution ${solves ? "solves" : "doesn't solve"} the scramble.`,
+    isSolved ? `Solved: ${total}.` : "",
+    walk !== null && !isSolved && solves === null ? `${ending}: ${[total, ...reached].join(", ")}.` : "",
+    kept.length === 0 ? "" : `${counted(kept.length, "line")} ${kept.length === 1 ? "is" : "are"} kept.`,
+  ];
+}
+
+export class AttemptAnswer {
+  #read: ReadAttempt | null = null;
+  /** the card that the way leads to */
+  #card = "line";
+
+  constructor() {
+    part("attempt-way").addEventListener("click", () => {
+      part(`${this.#card}-heading`).focus({ preventScroll: true });
+      part(this.#card).scrollIntoView({ block: areBeside() ? "nearest" : "start", behavior: "instant" });
+    });
+  }
+
+  /** Takes what was read of a text; what the engine says of its line comes by `tell`. */
+  take(read: ReadAttempt) {
+    this.#read = read;
+    if (read.parts.length > 0) return;
+    this.#show(read, wordsOfAttempt(read, null));
+    if (!part("attempt").hidden) announceLater(part("attempt-words").textContent);
+  }
+
+  /** @param doubted the place of the step that is in doubt, -1 if none is */
+  tell(walk: Walk, doubted: number) {
+    const read = this.#read;
+    if (read === null || read.parts.length === 0) return;
+    this.#show(read, [...wordsOfAttempt(read, walk), doubted < 0 ? "" : `In doubt: step ${doubted + 1}.`]);
+  }
+
+  /** Says nothing more, since the line or the scramble is another one. */
+  leave() {
+    this.#read = null;
+    if (part("attempt").hidden) return;
+    const card = part("scramble-card");
+    withoutMoving(card.contains(document.activeElement) ? card : part("results"), () => {
+      part("attempt").hidden = true;
+      part("attempt-words").textContent = "";
+    });
+  }
+
+  #show({ parts, solves }: ReadAttempt, sentences: string[]) {
+    const words = sentences.filter(Boolean).join(" ");
+    part("attempt").hidden = words === "";
+    part("attempt-words").textContent = words;
+    part("attempt-words").classList.toggle("lost", solves === false);
+    this.#card = parts.length > 0 ? "line" : "kept";
+    part("attempt-way").textContent = parts.length > 0 ? "Line so far" : "Kept";
+  }
+}
