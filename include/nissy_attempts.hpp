@@ -55,6 +55,7 @@ struct attempt {
     std::vector<attempt_candidate> candidates; // the blocks after a blank line
     std::size_t before = 0;                    // how many lines of prose stand before the scramble
     std::optional<attempt_doubt> doubt;        // of the reading, if nothing solves, or it is step_or_scramble
+    bool is_labelled = false;                  // a label such as `Solution:` calls the solution so: else it may be an attempt that was given up
 };
 
 namespace detail {
@@ -202,8 +203,12 @@ inline std::vector<plain> steps_in(std::string_view text, text_lines lines) {
 }
 
 inline attempt attempt_of(std::string_view text, text_lines lines, place_counter &places) {
-    attempt made = {name_of(text, lines), moves_in(text, lines, NISSY_OF_SCRAMBLE), steps_in(text, lines), {}, candidates_in(text, lines), 0, {}};
-    if (lines.has(is_of_solution)) made.solution = moves_in(text, lines, NISSY_OF_SOLUTION);
+    attempt made = {
+        name_of(text, lines), moves_in(text, lines, NISSY_OF_SCRAMBLE), steps_in(text, lines), {}, candidates_in(text, lines), 0, {}, false};
+    if (lines.has(is_of_solution)) {
+        made.solution = moves_in(text, lines, NISSY_OF_SOLUTION);
+        made.is_labelled = lines.has([](const nissy_text_line &it) { return it.solution && it.labelled; });
+    }
     for (const nissy_text_line &line : lines) made.before += line.kind == NISSY_LINE_BEFORE;
     const auto doubted = lines.find([](const nissy_text_line &it) { return it.doubt != NISSY_NO_DOUBT; });
     if (doubted != lines.last) made.doubt = attempt_doubt{static_cast<doubt_reason>(doubted->doubt), places.at(doubted->doubt_at)};

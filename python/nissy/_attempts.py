@@ -4,7 +4,7 @@ import ctypes
 from bisect import bisect_right
 from functools import reduce
 from itertools import accumulate, compress
-from operator import ne, or_
+from operator import and_, ne, or_
 from typing import Any, Callable, Iterator, List, NamedTuple, Optional, Sequence, Tuple
 
 from . import _library
@@ -72,6 +72,8 @@ class Attempt(NamedTuple):
     doubt: Optional[AttemptDoubt] = None
     """What makes one doubt the reading if the solution doesn't solve the scramble, "step or scramble" also if it does,
     or None."""
+    is_labelled: bool = False
+    """Whether a label such as `Solution:` calls the solution so: else it may be an attempt that was given up."""
 
 
 NOTHING = PlainLine("", (), ())
@@ -224,9 +226,11 @@ class Reader:
         # the first head
         name = self._words(headed, _BEGIN, _HEAD_END) if headed >= 0 else ""
         if self._kinds.find(STEP, begin, end) < 0:
-            return value_of(Attempt, (name, scramble, (), None, (), before, doubt))
+            return value_of(Attempt, (name, scramble, (), None, (), before, doubt, False))
         steps, solution, candidates = self._after_scramble(begin, end)
-        return value_of(Attempt, (name, scramble, steps, solution, candidates, before, doubt))
+        labels = map(and_, self._are_solution[begin:end], self._are_labelled[begin:end])
+        is_labelled = solution is not None and any(labels)
+        return value_of(Attempt, (name, scramble, steps, solution, candidates, before, doubt, is_labelled))
 
     def doubt(self, number: int, byte: int) -> AttemptDoubt:
         """Returns a doubt by the library's number, which is seen at a byte of the text."""

@@ -171,7 +171,8 @@ std::string attempts_of(std::string_view text) {
             others.push_back(parts_in(text, each.steps) + "=" + part_in(text, each.solution) + "#" + each.note);
         said.push_back(joined({it.name, std::to_string(it.before), part_in(text, it.scramble), parts_in(text, it.steps), part_in(text, it.solution),
                                joined(others, ";")},
-                              "|"));
+                              "|") +
+                       (it.is_labelled ? "|labelled" : ""));
     }
     return joined(said, "\n");
 }

@@ -97,9 +97,9 @@ function attempts(text, found) {
   const seen = seenIn(text);
   const one = (each) => partIn(text, each, seen);
   const all = (each) => each.map(one).join("/");
-  return found.map(({ name, before, scramble, steps, solution, candidates }) => {
+  return found.map(({ name, before, scramble, steps, solution, candidates, isLabelled }) => {
     const others = candidates.map((each) => `${all(each.steps)}=${one(each.solution)}#${each.note}`).join(";");
-    return [name, before, one(scramble), all(steps), one(solution), others].join("|");
+    return [name, before, one(scramble), all(steps), one(solution), others, ...(isLabelled ? ["labelled"] : [])].join("|");
   }).join("\n");
 }
 

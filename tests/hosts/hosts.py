@@ -144,7 +144,8 @@ def attempts(text: str, form: Any) -> str:
             f"{all_of(each.steps)}={part_in(text, each.solution, form)}#{each.note}" for each in it.candidates
         )
         solution = "none" if it.solution is None else part_in(text, it.solution, form)
-        return "|".join([it.name, str(it.before), part_in(text, it.scramble, form), all_of(it.steps), solution, others])
+        said = [it.name, str(it.before), part_in(text, it.scramble, form), all_of(it.steps), solution, others]
+        return "|".join([*said, *["labelled"] * it.is_labelled])
 
     return "\n".join(map(told_of, nissy.read_attempts(form)))
 

@@ -110,6 +110,7 @@ def classes(tally: Tally) -> None:
                 "candidates": Tuple[nissy.AttemptCandidate, ...],
                 "before": int,
                 "doubt": Optional[nissy.AttemptDoubt],
+                "is_labelled": bool,
             },
         ),
         (nissy.AttemptDoubt, {"reason": str, "place": nissy.TextPlace}),

@@ -95,6 +95,7 @@ def attempts(tally: Tally) -> None:
             solution,
             (nissy.AttemptCandidate((solution,), solution, "Solution a try"),),
             1,
+            is_labelled=True,
         ),
         second,
     ]

@@ -22,7 +22,8 @@ export type AttemptDoubt = { reason: Exclude<typeof REASONS[number], "">; place:
  * others, such as `2.`, or empty; so many lines of prose stand `before` the first one; `steps` are the lines of the
  * solution, each of which a comment or a label may describe, and `candidates` the blocks after a blank line.
  * `solution` is the block whose label says so, else the steps in one, and null if it can't be told, or if there is
- * none. `doubt` counts if nothing solves, "step or scramble" always, and is null if there is none. */
+ * none. `doubt` counts if nothing solves, "step or scramble" always, and is null if there is none. It `isLabelled` if a
+ * label such as `Solution:` calls the solution so: else it may be an attempt that was given up. */
 export type Attempt = {
   name: string;
   scramble: PlainLine;
@@ -31,6 +32,7 @@ export type Attempt = {
   candidates: AttemptCandidate[];
   before: number;
   doubt: AttemptDoubt | null;
+  isLabelled: boolean;
 };
 
 const LINE_READ = TEXT_LINE.read;
@@ -41,7 +43,7 @@ export const withoutPlaces = (line: string): PlainLine => ({ line, places: [], l
 
 /** An attempt with nothing but a scramble. */
 export const attemptOf = (scramble: PlainLine): Attempt => ({
-  name: "", scramble, steps: [], solution: null, candidates: [], before: 0, doubt: null,
+  name: "", scramble, steps: [], solution: null, candidates: [], before: 0, doubt: null, isLabelled: false,
 });
 
 /** The moves of the lines of a kind. */
@@ -187,6 +189,8 @@ export class AttemptReader {
     attempt.steps = this.#each(under.length > 0 ? under : told);
     const alike = under.length === 0 || under[0] === told[0] ? attempt.steps : [];
     if (told.length > 0) attempt.solution = this.#inOne(alike, told);
+    const labelled = this.#having(this.#having(after, LINE_READ.solution, 1), LINE_READ.labelled, 1);
+    attempt.isLabelled = told.length > 0 && labelled.length > 0;
     if (under.length === every.length) return;
     // the first group stands before the others
     const others = every.slice(under.length).map((nth) => this.#told(nth, LINE_READ.group));

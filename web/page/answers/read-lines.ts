@@ -4,7 +4,6 @@
 import { NissyFault, type FaultParts } from "../../module/shared/faults.js";
 import { MOST_MOVES } from "../state/limits.js";
 import { SIDES, bracketed, joined, type Part, type Side } from "../shared/offered-steps.js";
-import type { Attempt } from "../../module/text/attempts.js";
 import type { Candidate } from "../state/address.js";
 import type { Copied } from "../state/kept-lines.js";
 import type { Nissy } from "../../module/nissy.js";
@@ -120,14 +119,6 @@ function readAllByHand(
 /** A text as solvers write it, and which of its attempts is meant; `copied`: what it was a copy of, before edits. */
 export type Written = { text: string; at: number; copied?: Copied[] };
 
-/** Whether the words before the solution of an attempt call it that: then they do so below another candidate too. */
-function isCalledSolution(nissy: Nissy, text: string, { scramble, solution }: Attempt) {
-  const [last, begin] = [scramble.places.at(-1), solution?.places[0]];
-  if (last === undefined || begin === undefined) return false;
-  const [{ solution: found }] = nissy.readAttempts(`R2 U2\n\nD2\n\n${text.slice(last + 1, begin)}L2`);
-  return /^\(?L2\)?$/.test(found?.line ?? "");
-}
-
 /** `solves`: whether what the text calls its solution does, null if nothing is, or if that can't be told. */
 export type ReadAttempt = ReturnType<typeof readWritten>;
 
@@ -150,7 +141,7 @@ export function readWritten(nissy: Nissy, { text, at }: Written) {
     unread: [unread, ...read.map((each) => each.unread)].find((each) => each !== null) ?? null,
     doubt,
     doubted,
-    solves: check !== null && isCalledSolution(nissy, text, attempt) ? check.solved : null,
+    solves: check !== null && attempt.isLabelled ? check.solved : null,
     undoing: nissy.invert(parts[doubted]?.normal ?? ""),
   };
 }
