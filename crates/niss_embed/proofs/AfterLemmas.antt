@@ -1,10 +1,10 @@
 -- From what a search after a sequence did to its lines in memory to what it answers.
 use Rattle.std.proofs.Common.{◌≡◌, ◌⊎◌, inl, inr, ℕ, ◌+◌, ◌<◌, ◌≤◌, Bool, true, false, Option, None, Result, Ok, Err, List, [], ◌∷◌, map}
 use Rattle.std.proofs.Common.{take, length, refl, sym, ap, ◌∙◌, subst, arith, unwrap_or}
-use Rattle.std.proofs.Common.{ap₂, get_or, ◌++◌}
+use Rattle.std.proofs.Common.{get_or}
 use Rattle.std.specs.Prelude.{filter}
 use Rattle.std.proofs.lemmas.Grind.{common_steps}
-use Rattle.std.proofs.lemmas.List.{length-take-le, take_more, length-map, map-append, get_or_default, get_or-map}
+use Rattle.std.proofs.lemmas.List.{length-take-le, length-map, get_or_default, get_or-map}
 use Rattle.niss_search.specs.Names.{no_turn}
 use Rattle.std.specs.Prelude.{is_err, OnOk, IfErr}
 use Rattle.niss_moves.specs.Line.{Moves}
@@ -180,12 +180,6 @@ one_list a b h = back a ∙ ap (λ (m : Moves). map (face_turn no_turn) m.normal
   back : (ts : List Turn) → ts ≡ map (face_turn no_turn) (map token.Face ts)
   back [] = refl
   back (t ∷ ts) = ap (λ (l : List Turn). t ∷ l) (back ts)
-
--- one turn more was read
-pub push_turn : (turns : List Turn) (moves : List Token) (i : ℕ) (d : Token) (t : Turn) → i < length moves → map token.Face turns ≡ take i moves
-    → get_or moves i d ≡ token.Face t → map token.Face (turns ++ t ∷ []) ≡ take (i + 1) moves
-push_turn turns moves i d t inside read is =
-    map-append token.Face turns (t ∷ []) ∙ ap₂ (λ (a b : List Token). a ++ b) read (ap (λ (m : Token). m ∷ []) (sym is)) ∙ sym (take_more moves i d inside)
 
 -- a move that is no turn of a face stands in no such line
 pub another_move : (line : Moves) (i : ℕ) (d : Token) → i < length line.normal → ((t : Turn) → get_or line.normal i d ≡ token.Face t → ⊥)

@@ -1,12 +1,12 @@
 -- From what a search did to a count of its solutions to what is answered of it.
 use Rattle.std.proofs.Common.{◌≡◌, inl, inr, ℕ, suc, ◌+◌, ◌<◌, ◌≤◌, min, true, false, None, Ok, Err, List, [], ◌∷◌}
 use Rattle.std.proofs.Common.{take, length, refl, sym, ap, ◌∙◌, subst, arith}
-use Rattle.std.specs.Prelude.{is_err, OnOk, IfErr, Option, unwrap_or}
-use Rattle.std.proofs.lemmas.Bool.{false≢true}
+use Rattle.std.specs.Prelude.{is_err, OnOk, IfErr}
+
 use Rattle.std.proofs.lemmas.List.{length-take-le}
 use Rattle.niss_moves.specs.Places.{Place}
 use Rattle.niss_search.specs.Budgets.{is_cut_in, HasSpent}
-use Rattle.niss_search.specs.Cubes.{least_length_of}
+
 use Rattle.niss_search.specs.LookNumbers.{found_within_of, look_number_of}
 use Rattle.niss_search.specs.Delivery.{WentThrough, StoppedAt, StoppedIn, WentInto, EndedIn}
 use Rattle.niss_search.specs.Laws.{FirstIsLeast}
@@ -15,7 +15,7 @@ use Rattle.niss_shell.specs.Names.{Turn, Step}
 use Rattle.niss_embed.specs.LineSearch.{CountState, count_state, Counts, CountsNoMore, CountsCube, capped, is_cut, all_found, looks_for_all}
 use Rattle.niss_embed.specs.declared.line.search.CountedSolutions.{CountedSolutions}
 use Rattle.niss_embed.specs.declared.line.search.Wanted.{Wanted}
-use Rattle.niss_embed.proofs.SolveLemmas.{at_front, finds_all, finds_some, finds_cut, told_of, Found, at_most_min, is_not_less, min_is_left, min_is_right}
+use Rattle.niss_embed.proofs.SolveLemmas.{at_front, finds_all, finds_some, finds_cut, told_of, Found, at_most_min, min_is_left, min_is_right}
 use Rattle.niss_embed.proofs.WrittenLemmas.{first_of, first_of-more}
 
 abbrev pub tally_of : CountedSolutions → CountState
@@ -147,32 +147,3 @@ module _ (step : Step) (w : Wanted) (e : Place → Place) (a b : CountedSolution
           counted = λ n. absurd (n refl);
           some_counted = at_most_min b.solutions w.most (length all) (omega (arith, b.few, t.took.same_most)) (omega (arith, taken, t.took.counted, t.within));
         }
-
--- all solutions were counted, by a search that nothing ended
-pub counts_whole : (step : Step) (w : Wanted) (e : Place → Place) (least : Option ℕ) (solutions looks : ℕ)
-    → least ≡ least_length_of step e w.limit → solutions ≡ length (all_found step w e) → looks ≡ looks_for_all step w e
-    → solutions ≤ w.most → capped looks ≤ w.most_nodes
-    → CountsCube step w e (told_of false false false least 0 solutions (capped looks))
-counts_whole step w e least solutions looks first count looked few within =
-    let whole : solutions ≡ min w.most (length (all_found step w e)) = count ∙ min_is_right w.most (length (all_found step w e)) (omega (arith, count, few)) in
-    record {
-      finds = record {
-        more = λ n. is_not_less solutions (length (all_found step w e)) (omega (arith, count));
-        maybe_more = λ c. absurd (omega (arith, c));
-        least = λ n. ap (λ o. unwrap_or o 0) first;
-        least_of_some = λ some. ap (λ o. unwrap_or o 0) first;
-        least_of_none = λ c n. absurd (omega (arith, c));
-        looked = λ done. ap capped looked;
-        looks_at_most = omega (arith, ap capped looked);
-        stopped = λ n m. absurd (false≢true m);
-        within = within;
-        cut = λ c. absurd (omega (arith, c));
-        spent = λ c. absurd (omega (arith, c));
-        found = λ c. absurd (omega (arith, c));
-        no_fault = refl;
-        no_column = refl;
-      };
-      no_text = refl;
-      counted = λ n. (refl, whole);
-      some_counted = omega (arith, whole);
-    }

@@ -1,5 +1,5 @@
 -- From where one stands after two lines to what the call leaves and tells that lists the solutions of a step over sides.
-use Rattle.std.proofs.Common.{◌≡◌, inl, inr, ◌≤◌, Bool, true, false, if◌then◌else◌, Result, Ok, Err, List, refl, sym, ap, ◌∙◌, subst, arith}
+use Rattle.std.proofs.Common.{◌≡◌, inl, inr, ◌≤◌, Bool, true, false, if◌then◌else◌, Result, Ok, Err, List, sym, subst, arith}
 use Rattle.niss_cube.specs.Map.{map_of}
 use Rattle.niss_cube.specs.Steps.{may_start}
 use Rattle.niss_cube.specs.declared.step.Step.{Step}
@@ -50,8 +50,3 @@ pub not_started : (lines : Result two.Both Nowhere) (o : Origin) (step : Step) (
 not_started (Ok lines) o step w room room_now told stands may same is =
     inr (o, stands, subst (λ (b : Bool). ListsOrNot b o step w room room_now told) (sym may) (record { same = same; told_is = is }))
 not_started (Err why) o step w room room_now told stands may same is = absurd stands
-
-pub not_listed : (lines : Result two.Both Nowhere) (why : Nowhere) (step : Step) (w : SidesWanted) (room : List Part) (told : SidesAnswer)
-    → StartsAfter lines (Err why) → told ≡ nowhere_sides why → ListsAfter lines step w room room told
-not_listed (Ok lines) why step w room told stands is = inl (stands.1, record { same = refl; told_is = is ∙ ap nowhere_sides stands.0 })
-not_listed (Err due) why step w room told stands is = record { same = refl; told_is = is ∙ ap nowhere_sides stands }

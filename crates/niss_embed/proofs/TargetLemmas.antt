@@ -9,23 +9,6 @@ use Rattle.niss_shell.specs.Device.{Calls, Sends}
 use Rattle.niss_shell.specs.declared.device.DeviceFault.{DeviceFault}
 use Rattle.niss_embed.specs.Memory.{Memory, memory, Puts, Lent, lent, Appended, Fills}
 
-pub fills_piece : (bytes bytes_now piece : List ℕ) (reference reference_now at count : ℕ) (refused : Bool)
-    → reference_now ≡ reference → at ≤ length bytes → count ≤ length piece → count ≤ length bytes - at
-    → take (at + count) bytes_now ≡ take at bytes ++ take count piece → drop (at + count) bytes_now ≡ drop (at + count) bytes
-    → Fills (Write piece (Ok count)) (lent bytes reference at refused) (lent bytes_now reference_now (at + count) (refused || is_empty_answer count piece))
-fills_piece bytes bytes_now piece reference reference_now at count refused same within bound fits written left =
-    let taken : length (take count piece) ≡ count = length-take-le count piece bound in
-    record {
-      shown = record { bytes = written; failed = refl };
-      filled = record {
-        text = written;
-        left = left ∙ sym (drop-drop count at bytes) ∙ ap (λ n. drop n (drop at bytes)) (sym taken);
-        fits = omega (arith, taken, fits, length-drop at bytes);
-        same_reference = same;
-      };
-      flushes = tt;
-    }
-
 -- what a run appends, call by call
 
 pub no_front : (bytes : List ℕ) → take 0 bytes ≡ []
@@ -145,23 +128,6 @@ module _ {D : Type 0} (state : D → Lent) where
       let split = calls_split Does calls (Flush flushed ∷ []) a c made in
       let did : Fills (Flush flushed) (state split.0) (state c) = subst (λ d. Fills (Flush flushed) (state split.0) (state d)) split.1.1.1.1 split.1.1.1.0 in
       after_flush flushed text left (state a) (state split.0) (state c) did (took calls text left a split.0 split.1.0 sends)
-
--- the memory is full if something was refused
-
-full_now : (c : Bool) (at count size : ℕ) (piece : List ℕ) → is_empty_answer count piece ≡ c
-    → (count ≡ length piece) ⊎ (count ≡ size - at) → at ≤ size → c ≡ true → at + count ≡ size
-full_now c at count size piece e most within full = by_count count piece (e ∙ full) most
-  where
-    by_count : (n : ℕ) (piece : List ℕ) → is_empty_answer n piece ≡ true → (n ≡ length piece) ⊎ (n ≡ size - at) → at + n ≡ size
-    by_count zero [] f m = absurd (cc f)
-    by_count zero (b ∷ piece) f (inl m) = absurd (omega (arith, m))
-    by_count zero (b ∷ piece) f (inr m) = omega (arith, m, within)
-    by_count (suc n) piece f m = absurd (cc f)
-
-pub stays_full : (refused : Bool) (at count size : ℕ) (piece : List ℕ) → (refused ≡ true → at ≡ size) → count ≤ size - at
-    → (count ≡ length piece) ⊎ (count ≡ size - at) → at ≤ size → (refused || is_empty_answer count piece) ≡ true → at + count ≡ size
-stays_full true at count size piece full fits most within h = omega (arith, full refl, fits)
-stays_full false at count size piece full fits most within h = full_now (is_empty_answer count piece) at count size piece refl most within h
 
 -- a text that was taken whole, and one that was cut
 

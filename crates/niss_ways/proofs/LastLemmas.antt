@@ -1,6 +1,6 @@
 -- The turns at the end of a sequence that are on an axis.
 use Rattle.std.proofs.Common.{◌≡◌, ℕ, Bool, true, false, ◌&&◌, if◌then◌else◌, List, [], ◌∷◌, ◌++◌, length, refl, ap, sym, ◌∙◌, ◌+◌, arith}
-use Rattle.std.proofs.lemmas.List.{append-nil, append_assoc, length-append}
+use Rattle.std.proofs.lemmas.List.{append_assoc}
 use Rattle.std.specs.List.{list_all}
 use Rattle.niss_moves.specs.declared.turn.Axis.{Axis}
 use Rattle.niss_moves.specs.declared.turn.Turn.{Turn}
@@ -40,9 +40,6 @@ pub record Ends (axis : Axis) (turns rest : List Turn) (count : ℕ) : Type 0 wh
   pub all : all_on axis after ≡ true
   pub counted : count ≡ length after
 
-pub ends_none : (axis : Axis) (turns : List Turn) → Ends axis turns turns 0
-ends_none axis turns = record { after = []; split = sym (append-nil turns); all = refl; counted = refl }
-
 pub ends_more : (axis : Axis) (turns rest front : List Turn) (t : Turn) (count : ℕ) → rest ≡ front ++ t ∷ [] → is_face_of axis t.face ≡ true
     → Ends axis turns rest count → Ends axis turns front (count + 1)
 ends_more axis turns rest front t count is on h = record {
@@ -62,6 +59,3 @@ pub ends_before : (axis : Axis) (turns rest front : List Turn) (t : Turn) (count
 ends_before axis turns rest front t count is off h =
     h.counted ∙ sym (ap (last_on axis) (h.split ∙ ap (λ (ts : List Turn). ts ++ h.after) is ∙ append_assoc front (t ∷ []) h.after)
     ∙ last_after axis front t h.after off h.all)
-
-pub ends_few : (axis : Axis) (turns rest : List Turn) (count : ℕ) → Ends axis turns rest count → count + length rest ≡ length turns
-ends_few axis turns rest count h = omega (arith, h.counted, ap length h.split, length-append rest h.after)
