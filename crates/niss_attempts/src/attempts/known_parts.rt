@@ -47,10 +47,7 @@ impl Known<'_> {
         if number == 0 {
             return 0;
         }
-        match self.ends.get(number - 1) {
-            Some(end) => *end as usize,
-            None => 0,
-        }
+        self.ends.get(number - 1).map_or(0, |end| *end as usize)
     }
 
     /// The same number, if there is such a scramble, or the highest one.
@@ -77,10 +74,8 @@ impl Known<'_> {
     fn is_solved_by(&self, number: usize, solution: &Niss) -> bool
         ensures { (line : List ℕ) → IsReadAs line solution.now → result ≡ solves_known self.now.scrambles.now self.now.ends.now line number }
     {
-        match self.scramble(number) {
-            Some(scramble) => is_solved(scramble, solution),
-            None => false,
-        }
+        self.scramble(number)
+            .is_some_and(|scramble| is_solved(scramble, solution))
     }
 
     /// Whether a solution that was read solves one of the first scrambles.

@@ -16,10 +16,7 @@ pub struct NoRoom;
 pub(crate) fn place_at(places: &[u64], byte: usize) -> usize
     ensures { result ≡ get_or places.now byte no_place }
 {
-    match places.get(byte) {
-        Some(place) => *place as usize,
-        None => NONE,
-    }
+    places.get(byte).map_or(NONE, |place| *place as usize)
 }
 
 /// Writes the moves of some lines, and says how many bytes these are.
