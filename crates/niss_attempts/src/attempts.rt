@@ -45,7 +45,7 @@ pub struct Given<'a> {
     pub doubt: Option<Doubt>,
 }
 
-/// Where a fault stands that a check tells of a scramble or a solution.
+/// Where a fault stands that a check tells of a scramble or a solution, in bytes of the text; `NONE` if there is none.
 fn fault_place(check: &CheckAnswer, scramble_places: &[u64], solution_places: &[u64]) -> usize
     ensures { result ≡ fault_place check.now scramble_places.now solution_places.now }
 {

@@ -67,7 +67,7 @@ impl Reason {
 #[derive(Clone, Copy)]
 pub struct Doubt {
     pub reason: Reason,
-    /// Where it stands in the text.
+    /// Where it stands, in bytes of the text, or `NONE` if it has no place there.
     pub at: usize,
 }
 

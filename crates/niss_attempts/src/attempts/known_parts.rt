@@ -23,7 +23,7 @@ use niss_text::{MovesOf, TextLine};
 /// With how many known scrambles a solution is tried that doesn't solve its own.
 const MOST_TRIED: usize = 64;
 
-/// Scrambles that are known, one after another, and where each ends.
+/// Scrambles that are known, one after another, and where each ends, in their bytes. Callers make these places, so any number may be one.
 #[derive(Clone, Copy)]
 pub struct Known<'a> {
     pub scrambles: &'a [u8],
@@ -35,7 +35,7 @@ pub struct Known<'a> {
 pub struct Found {
     /// It makes the same cube.
     pub is_same: bool,
-    /// Where its first move stands.
+    /// Where its first move stands, in bytes of the text, or `NONE` if it has none.
     pub at: usize,
 }
 
@@ -157,7 +157,7 @@ pub struct Solution<'a> {
     pub others: &'a [TextLine],
     pub scramble: &'a [u8],
     pub known: Known<'a>,
-    /// Where the part begins.
+    /// Where the part begins, in bytes of the text.
     pub begin: usize,
 }
 

@@ -1,5 +1,4 @@
-//! What makes one doubt the steps of an attempt that isn't solved: that a part of them solves; or else that a turn was lost, the
-//! cube was turned, or a step was moved.
+//! What makes one doubt the steps of an attempt that isn't solved: a part that solves, a lost turn, a turned cube, a moved step.
 ghost use Rattle.std.specs.Prelude.{◌≡◌, ◌<◌, Ok, length};
 ghost use Rattle.niss_attempts.specs.Attempts.{IsDoubtOfRead, IsDoubtOfWritten};
 ghost use Rattle.niss_attempts.specs.Between.{AreWhole};

@@ -31,11 +31,11 @@ pub struct PartAnswer {
     /// 0 if nothing solves, 1 to 3 in the order of `How`, 4 if all steps solve without their brackets, 5 if some in brackets,
     /// 6 if one is made several times, 7 if their small letters are capitals.
     pub how: u8,
-    /// The first step of the part, or of those in brackets, from 0.
+    /// The first step of the part, or of those in brackets, from 0 to 11.
     pub first: u8,
     /// The last of them.
     pub last: u8,
-    /// Where the first one begins.
+    /// Where the first one begins, in bytes of the steps.
     pub begin: usize,
 }
 
@@ -67,6 +67,7 @@ impl How {
 #[derive(Clone, Copy)]
 pub struct Part {
     pub how: How,
+    /// The first step of them, from 0.
     pub first: usize,
     /// The first step after them.
     pub end: usize,
