@@ -88,10 +88,6 @@ run_next lines others line first n b is are few has =
     step lines (line ∷ take n others) (runs_of (drop n others)) first (first + 1 + n) b (ap runs_of is ∙ alike_runs line n others are)
     (ap (λ v. list_any (is_wanted Scramble) v) (sym own) ∙ has) (omega (arith, long)) (ap runs_of (sym rest))
 
--- no line is left
-pub no_run : (lines : List TextLine) (first : ℕ) → drop first lines ≡ [] → attempts_from first lines ≡ []
-no_run lines first none = ap (λ v. with_scramble first (runs_of v)) none
-
 -- the lines from one on are all after it
 pub lines_from : (lines : List TextLine) (first : ℕ) → take (length lines - first) (drop first lines) ≡ drop first lines
 lines_from lines first = let long = length-drop first lines in take_all (length lines - first) (drop first lines) (omega (arith, long))
@@ -112,9 +108,6 @@ pub no_check : {X : Type 0} (P : X → AttemptCheck → Type 0) (all xs : List X
 unfolding Are
 no_check P all xs checks none far =
     subst (λ (v : List AttemptCheck). Are P all v) (append-nil checks) (far [] (subst (λ v. Are P v []) (sym none) tt))
-
-pub all_checks : {X : Type 0} (P : X → AttemptCheck → Type 0) (xs : List X) (checks more : List AttemptCheck) → checks ≡ [] → Are P xs more → Are P xs (checks ++ more)
-all_checks P xs checks more none are = subst (λ v. Are P xs (v ++ more)) (sym none) are
 
 -- what follows is the same after one more
 pub after_check : (checks checks' first : List AttemptCheck) (count : ℕ) (it : AttemptCheck) → checks' ≡ set checks count it → drop count checks ≡ drop count first →

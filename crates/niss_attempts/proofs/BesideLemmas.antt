@@ -32,18 +32,6 @@ found_with text lines scramble solution it result line seen found wanted is_seen
   slip = slip ∙ ap (λ other. if seen.is_slip then Some (doubt SeveralSolutions line.moves) else other) found.slip;
 }
 
--- a line that is no step changes nothing
-pub found_past : (text : List ℕ) (lines : List TextLine) (scramble : Moves) (solution : List Turn) (it : Beside) (line : TextLine) →
-    IsFound text lines scramble solution it → is_wanted EachStep line ≡ false → IsFound text (line ∷ lines) scramble solution it
-found_past text lines scramble solution it line found unwanted = record {
-  steps = found.steps;
-  are_lines = found.are_lines ∙ sym (ap (λ b. cond b (line ∷ filter (is_wanted EachStep) lines) (filter (is_wanted EachStep) lines)) unwanted);
-  are_seen = found.are_seen;
-  begins = found.begins;
-  another = found.another;
-  slip = found.slip;
-}
-
 -- what is seen of a long step
 pub seen_long : (text : List ℕ) (line : TextLine) (scramble : Moves) (solution : List Turn) (seen : Seen) → true ≡ is_long_other line →
     IsLongSeen text line scramble solution seen → IsSeen (is_long_other line) text line scramble solution seen

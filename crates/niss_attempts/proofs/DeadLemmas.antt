@@ -368,9 +368,6 @@ whole_line bytes front last is feed reading =
     ends [] reading = λ i. blank reading i ∷ []
     ends (x ∷ xs) reading = λ i. read_byte reading x ∷ ends xs reading i
 
-pub nothing_whole : (bytes : List ℕ) → bytes ≡ [] → EndsWhole bytes
-nothing_whole bytes none reading = subst Rests (sym (ap (map (read_byte reading)) none)) rests_nothing
-
 -- one byte more is fed
 pub fed_more : (front : List ℕ) (f : ℕ → ℕ) (xs : List ℕ) (i d byte : ℕ) → i < length xs → byte ≡ f (get_or xs i d) →
     (front ++ map f (take i xs)) ++ byte ∷ [] ≡ front ++ map f (take (i + 1) xs)

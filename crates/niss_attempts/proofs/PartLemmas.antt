@@ -1,16 +1,14 @@
 -- The places where steps end, and the first part that solves.
-use Rattle.std.proofs.Common.{◌≡◌, ℕ, zero, suc, ◌+◌, ◌<◌, ◌≤◌, ◌⊎◌, Bool, true, false, cond, None, Some, List, [], ◌∷◌, ◌++◌, length, take, refl, sym, ap, ◌∙◌, inl, inr, arith, length-append}
+use Rattle.std.proofs.Common.{◌≡◌, ℕ, zero, suc, ◌+◌, ◌<◌, ◌≤◌, ◌⊎◌, Bool, true, false, cond, None, List, [], ◌∷◌, ◌++◌, length, take, refl, sym, ap, ◌∙◌, inl, inr, arith, length-append}
 use Rattle.std.specs.Prelude.{slice_index}
 use Rattle.std.specs.List.{filter, range_with_len}
 use Rattle.std.proofs.lemmas.Bool.{cases_lt}
 use Rattle.std.proofs.lemmas.List.{append-nil, take_all, take-append-le, length-take-le}
 use Rattle.std.proofs.lemmas.List.Elements.{filter-append}
 use Rattle.niss_search.proofs.CallerLemmas.{range_push}
-use Rattle.niss_attempts.specs.declared.steps.parts.How.{How}
-use Rattle.niss_attempts.specs.declared.steps.parts.How.TheVariants.{Alone, LeftOut, InBrackets}
 use Rattle.niss_attempts.specs.declared.steps.parts.Part.{Part}
 use Rattle.niss_attempts.specs.Corners.{Ascends, AreBounds}
-use Rattle.niss_attempts.specs.Parts.{most_steps, in_bracket, is_open_after, is_end, how_number, part, IsHow, IsPart, IsBefore, IsFirst, IsFirstFrom}
+use Rattle.niss_attempts.specs.Parts.{most_steps, in_bracket, is_open_after, is_end, part, IsHow, IsPart, IsFirstFrom}
 unfoldable use Rattle.niss_attempts.specs.Parts.{bounds_of}
 
 range_one : (n : ℕ) → range_with_len 1 (n + 1) ≡ range_with_len 1 n ++ (n + 1) ∷ []
@@ -28,9 +26,6 @@ bracket_after text n before after is so_far =
 -- the places so far
 abbrev pub bounds_to : List ℕ → ℕ → List ℕ
 bounds_to text n = 0 ∷ take most_steps (filter (is_end text) (range_with_len 1 n))
-
-pub bounds_begin : (text : List ℕ) → 0 ∷ [] ≡ bounds_to text 0
-bounds_begin text = refl
 
 pub bounds_end : (text items : List ℕ) → items ≡ bounds_to text (length text) → items ≡ bounds_of text
 unfolding bounds_of
@@ -112,38 +107,43 @@ are_bounds text =
       ascend = ascend_from 0 (take most_steps ends) (taken_ascend most_steps 0 ends (filtered_ascend (is_end text) 0 1 (length text) (omega arith)));
     }
 
-pub first_how : (solving : How → Bool) → solving Alone ≡ true → IsHow solving (Some Alone)
-first_how solving is = (is, λ other less. absurd (none other less))
-  where
-    none : (other : How) → how_number other < 1 → ⊥
-    none Alone less = omega arith
-    none LeftOut less = omega arith
-    none InBrackets less = omega arith
-
-pub second_how : (solving : How → Bool) → solving Alone ≡ false → solving LeftOut ≡ true → IsHow solving (Some LeftOut)
-second_how solving not is = (is, λ other less. earlier other less)
-  where
-    earlier : (other : How) → how_number other < 2 → solving other ≡ false
-    earlier Alone less = not
-    earlier LeftOut less = absurd (omega arith)
-    earlier InBrackets less = absurd (omega arith)
-
-pub third_how : (solving : How → Bool) → solving Alone ≡ false → solving LeftOut ≡ false → solving InBrackets ≡ true → IsHow solving (Some InBrackets)
-third_how solving not neither is = (is, λ other less. earlier other less)
-  where
-    earlier : (other : How) → how_number other < 3 → solving other ≡ false
-    earlier Alone less = not
-    earlier LeftOut less = neither
-    earlier InBrackets less = absurd (omega arith)
-
-pub no_how : (solving : How → Bool) → solving Alone ≡ false → solving LeftOut ≡ false → solving InBrackets ≡ false → IsHow solving None
-no_how solving one two three Alone = one
-no_how solving one two three LeftOut = two
-no_how solving one two three InBrackets = three
-
 -- a part is what is done with some steps
 same_part : (q : Part) (first end : ℕ) → q.first ≡ first → q.end ≡ end → part q.how first end ≡ q
 same_part q first end e f = sym (λ i. record { how = q.how; first = e i; end = f i })
+
+-- No place of a list lies after a last one.
+abbrev AllWithin : ℕ → List ℕ → Type 0
+AllWithin last [] = Unit {0}
+AllWithin last (x ∷ xs) = (x ≤ last) × AllWithin last xs
+
+filtered_within : (test : ℕ → Bool) (last b n : ℕ) → b + n ≤ last + 1 → AllWithin last (filter test (range_with_len b n))
+filtered_within test last b zero le = tt
+filtered_within test last b (suc n) le = by_test (test b) (omega (arith, le), filtered_within test last (b + 1) n (omega (arith, le))) (filtered_within test last (b + 1) n (omega (arith, le)))
+  where
+    rest : List ℕ
+    rest = filter test (range_with_len (b + 1) n)
+
+    by_test : (t : Bool) → AllWithin last (b ∷ rest) → AllWithin last rest → AllWithin last (cond t (b ∷ rest) rest)
+    by_test true taken passed = taken
+    by_test false taken passed = passed
+
+taken_within : (n last : ℕ) (xs : List ℕ) → AllWithin last xs → AllWithin last (take n xs)
+taken_within zero last xs all = tt
+taken_within (suc n) last [] all = tt
+taken_within (suc n) last (x ∷ xs) all = (all.0, taken_within n last xs all.1)
+
+place_within : (last : ℕ) (xs : List ℕ) (k : ℕ) → AllWithin last xs → slice_index xs k ≤ last
+place_within last [] k all = omega arith
+place_within last (x ∷ xs) zero all = all.0
+place_within last (x ∷ xs) (suc k) all = place_within last xs k all.1
+
+-- no step ends after the text
+pub bounds_within : (text : List ℕ) (k : ℕ) → slice_index (bounds_of text) k ≤ length text
+unfolding bounds_of
+bounds_within text zero = omega arith
+bounds_within text (suc k) =
+    place_within (length text) (take most_steps (filter (is_end text) (range_with_len 1 (length text)))) k
+    (taken_within most_steps (length text) (filter (is_end text) (range_with_len 1 (length text))) (filtered_within (is_end text) (length text) 1 (length text) (omega arith)))
 
 -- no part that begins with a step and ends before another solves
 abbrev pub NoneFrom : (Part → Bool) → (first end : ℕ) → Type 0
@@ -156,15 +156,6 @@ from_more solving first end none how q same some near = last (cases_lt q.end end
     last : (q.end < end) ⊎ (end ≤ q.end) → solving q ≡ false
     last (inl less) = none q same some less
     last (inr not) = ap solving (sym (same_part q first end same (omega arith))) ∙ how q.how
-
-pub from_found : (solving : Part → Bool) (steps first end : ℕ) (how : How) → first < end → end ≤ steps → NoneFrom solving first end →
-    IsHow (λ h. solving (part h first end)) (Some how) → IsFirstFrom steps solving first (Some (part how first end))
-from_found solving steps first end how some within none is = (refl, (some, within), is.0, λ q among same before. earlier q among.0 same before)
-  where
-    earlier : (q : Part) → q.first < q.end → q.first ≡ first → IsBefore q (part how first end) → solving q ≡ false
-    earlier q has same (inl less) = absurd (omega arith)
-    earlier q has same (inr (e, inl less)) = none q same has less
-    earlier q has same (inr (e, inr (f, less))) = ap solving (sym (same_part q first end same f)) ∙ is.1 q.how less
 
 pub from_none : (solving : Part → Bool) (steps first end : ℕ) → steps < end → NoneFrom solving first end → IsFirstFrom steps solving first None
 from_none solving steps first end all none q among same = none q same among.0 (omega (arith, among.1))
@@ -180,17 +171,6 @@ none_more solving steps first none from q among near = last (cases_lt q.first fi
     last : (q.first < first) ⊎ (first ≤ q.first) → solving q ≡ false
     last (inl less) = none q among less
     last (inr not) = from q among (omega arith)
-
-pub part_found : (solving : Part → Bool) (steps first : ℕ) (p : Part) → NoneBefore steps solving first → IsFirstFrom steps solving first (Some p) →
-    IsFirst steps solving (Some p)
-part_found solving steps first p none is = (is.1, is.2, λ q among before. earlier q among before)
-  where
-    earlier : (q : Part) → IsPart steps q → IsBefore q p → solving q ≡ false
-    earlier q among (inl less) = none q among (omega (arith, is.0))
-    earlier q among (inr (e, later)) = is.3 q among (e ∙ is.0) (inr (e, later))
-
-pub none_at_all : (solving : Part → Bool) (steps first : ℕ) → steps ≤ first → NoneBefore steps solving first → IsFirst steps solving None
-none_at_all solving steps first all none q among = none q among (omega (arith, among.0, among.1, all))
 
 -- one step more that doesn't solve
 pub none_to_more : (solving : ℕ → Bool) (n : ℕ) → ((k : ℕ) → k < n → solving k ≡ false) → solving n ≡ false → (k : ℕ) → k < n + 1 → solving k ≡ false

@@ -1,6 +1,6 @@
 -- Sets of steps by their numbers, the lines in which they stand in brackets, and the first set that solves.
-use Rattle.std.proofs.Common.{◌≡◌, ◌∙◌, ℕ, zero, suc, ◌+◌, ◌-◌, ◌*◌, ◌^◌, ◌<◌, ◌≤◌, ◌⊎◌, ◌==◌, Bool, true, false, Some, None, List, [], ◌∷◌, ◌++◌, length, get_or, refl, sym, ap, subst, arith, inl, inr, append-nil}
-use Rattle.std.specs.Prelude.{flat_map, min, nat_lt}
+use Rattle.std.proofs.Common.{◌≡◌, ◌∙◌, ℕ, zero, suc, ◌+◌, ◌-◌, ◌*◌, ◌^◌, ◌<◌, ◌≤◌, ◌⊎◌, ◌==◌, Bool, false, List, [], ◌∷◌, ◌++◌, length, get_or, refl, sym, ap, subst, arith, inl, inr, append-nil}
+use Rattle.std.specs.Prelude.{flat_map, nat_lt}
 use Rattle.std.specs.Int.{bit_at}
 unfoldable use Rattle.std.specs.Int.Count.{count_trailing_zeros}
 use Rattle.std.specs.List.{range_with_len}
@@ -13,7 +13,7 @@ use Rattle.niss_search.proofs.CallerLemmas.{range_push}
 use Rattle.niss_attempts.specs.declared.steps.cube_corners.Corners.{Corners}
 use Rattle.niss_attempts.specs.declared.steps.sets.StepSet.{StepSet}
 use Rattle.niss_attempts.specs.Corners.{IsTail, AreTails, line_from}
-use Rattle.niss_attempts.specs.Parts.{most_in_sets, first_in, last_in, step_with, line_with, steps_line, in_brackets_if, IsLeast}
+use Rattle.niss_attempts.specs.Parts.{first_in, last_in, step_with, line_with, steps_line, in_brackets_if}
 
 abbrev pub of : ℕ → StepSet
 of n = record { number = n }
@@ -112,10 +112,3 @@ none_below_more solving n not none other some less = by_number (cases_lt other.n
         let same : other.number ≡ n = omega (arith, less, not_lower) in
         let is : other ≡ of n = λ i. record { number = same i } in
         ap solving is ∙ not
-
-pub least_is : (solving : StepSet → Bool) (steps n : ℕ) → 0 < n → n < 2 ^ min steps most_in_sets → solving (of n) ≡ true → NoneBelow solving n →
-    IsLeast steps solving (Some (of n))
-least_is solving steps n some within is none = ((some, within), is, λ other among less. none other among.0 less)
-
-pub least_none : (solving : StepSet → Bool) (steps n : ℕ) → 2 ^ min steps most_in_sets ≤ n → NoneBelow solving n → IsLeast steps solving None
-least_none solving steps n all none set among = none set among.0 (omega (arith, among.1, all))

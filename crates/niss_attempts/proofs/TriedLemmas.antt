@@ -1,5 +1,5 @@
 -- Which numbers are tried, and the first of them that holds.
-use Rattle.std.proofs.Common.{◌≡◌, ◌∙◌, ℕ, ◌+◌, ◌<◌, ◌≤◌, ◌&&◌, nat_lt, Bool, true, false, cond, None, Some, [], ◌∷◌, ◌++◌, length, refl, sym, ap, subst, arith, length-append}
+use Rattle.std.proofs.Common.{◌≡◌, ◌∙◌, ℕ, ◌+◌, ◌<◌, ◌≤◌, ◌&&◌, nat_lt, Bool, true, false, cond, Some, [], ◌∷◌, ◌++◌, length, refl, sym, ap, arith, length-append}
 use Rattle.std.specs.List.{filter, range_with_len}
 use Rattle.std.proofs.lemmas.Bool.{ltb-true, ltb-false}
 use Rattle.std.proofs.lemmas.List.Elements.{filter-append}
@@ -28,9 +28,6 @@ pub record AreTried (is_so : ℕ → Bool) (Holds : ℕ → Bool → Type 0) (at
   pub few : tried ≤ count_before is_so at
   pub all : tried < most_lines_tried → tried ≡ count_before is_so at
   pub none : (j : ℕ) → j < at → IsTried is_so j → Holds j false
-
-pub tries_begin : (is_so : ℕ → Bool) (Holds : ℕ → Bool → Type 0) → AreTried is_so Holds 0 0
-tries_begin is_so Holds = record { few = omega arith; all = λ low. refl; none = λ j less. absurd (omega (arith, less)) }
 
 passed : (is_so : ℕ → Bool) (Holds : ℕ → Bool → Type 0) (at tried : ℕ) (b : Bool) → is_so at ≡ b → (nat_lt tried most_lines_tried && is_so at) ≡ false →
     AreTried is_so Holds at tried → AreTried is_so Holds (at + 1) tried
@@ -78,8 +75,3 @@ tries_first bound is_so Holds at tried within is holds it =
     let low = ltb-true tried most_lines_tried both.0 in
     let so_far = it.all low in
     (within, (both.1, omega (arith, low, so_far)), holds, it.none)
-
--- the end without one
-pub tries_end : (bound : ℕ) (is_so : ℕ → Bool) (Holds : ℕ → Bool → Type 0) (at tried : ℕ) → at ≡ bound →
-    AreTried is_so Holds at tried → IsFirstTried bound is_so Holds None
-tries_end bound is_so Holds at tried all it = subst (λ (n : ℕ). (j : ℕ) → j < n → IsTried is_so j → Holds j false) all it.none

@@ -1,5 +1,5 @@
 -- What is told of attempts that were checked.
-use Rattle.std.specs.Prelude.{◌≡◌, ℕ, zero, suc, ◌+◌, ◌-◌, ◌<◌, ◌==◌, if◌then◌else◌, nat_lt, Bool, true, false, not, ◌&&◌, ⊤, ◌≤◌, ◌↔◌, IsTrue, Ok, min, Option, None, Some, is_some, List, [], ◌∷◌, length, drop, get_or, slice_range}
+use Rattle.std.specs.Prelude.{◌≡◌, ℕ, zero, suc, ◌+◌, ◌-◌, ◌<◌, ◌==◌, if◌then◌else◌, nat_lt, Bool, true, false, not, ◌&&◌, ⊤, ◌≤◌, ◌↔◌, IsTrue, Ok, min, Option, None, Some, is_some, Result, List, [], ◌∷◌, length, drop, get_or, slice_range}
 use Rattle.std.specs.List.{list_any, range_with_len}
 use Rattle.std.specs.Option.{option_or}
 use Rattle.niss_text.specs.Moves.{is_wanted}
@@ -10,8 +10,8 @@ use Rattle.niss_attempts.specs.Another.{IsBegunAgain}
 use Rattle.niss_attempts.specs.Beside.{IsDoubtBeside, is_long_other}
 use Rattle.niss_attempts.specs.InnerAttempt.{IsBegunWithin}
 use Rattle.niss_lines.specs.LineFacts.{check_of}
-use Rattle.niss_attempts.specs.Parts.{TellsPart}
-use Rattle.niss_attempts.specs.WholeDoubt.{IsWholeDoubt}
+use Rattle.niss_attempts.specs.Parts.{IsAnswerTo, TellsPart}
+use Rattle.niss_attempts.specs.WholeDoubt.{IsWholeDoubt, TellsWhole}
 use Rattle.niss_attempts.specs.declared.attempts.checks.AttemptCheck.{AttemptCheck}
 use Rattle.niss_attempts.specs.declared.attempts.judged.Judged.{Judged}
 use Rattle.niss_attempts.specs.declared.attempts.Outcome.{Outcome}
@@ -22,6 +22,7 @@ use Rattle.niss_attempts.specs.declared.attempts.known_parts.Known.{Known}
 use Rattle.niss_text.specs.declared.known.KnownPart.{KnownPart}
 use Rattle.niss_moves.specs.Line.{Moves}
 use Rattle.niss_moves.specs.Reader.{read_line}
+use Rattle.niss_moves.specs.declared.fault.ReadFault.{ReadFault}
 use Rattle.niss_shell.specs.Output.{line_text}
 use Rattle.niss_shell.specs.Words.{most_bytes}
 use Rattle.niss_shell.specs.declared.command.Rewriting.TheVariants.{Print}
@@ -64,14 +65,26 @@ outcome_of has_solution check =
 abbrev pub doubt_of_part : PartAnswer → (places : List ℕ) → Option Doubt
 doubt_of_part part places = if part.how == 0 then None else Some (doubt Part (get_or places part.begin no_place))
 
--- A part of the steps solves, and that is the doubt, or if none does, that a turn was lost, the cube turned, or a step moved.
+-- A part of steps whose bytes have these places solves, and that is the doubt, or if none does, that a turn was lost, the cube
+-- turned, or a step moved.
+pub record IsDoubtOfWritten (scramble steps places text : List ℕ) (lines : List TextLine) (told : Option Doubt) : Type 0 where
+  pub part : PartAnswer
+  pub tells : TellsPart scramble steps part
+  pub told_is : IsOrElse (doubt_of_part part places) (λ it. IsWholeDoubt scramble steps text lines it) told
+
+-- The same of a scramble as it is read, and of steps that begin and end at these places.
+pub record IsDoubtOfRead (scramble : Result Moves ReadFault) (is_beyond : Bool) (steps bounds places text : List ℕ) (lines : List TextLine) (told : Option Doubt)
+    : Type 0 where
+  pub part : PartAnswer
+  pub answers : IsAnswerTo scramble steps bounds part
+  pub told_is : IsOrElse (doubt_of_part part places) (λ it. TellsWhole is_beyond scramble steps bounds text lines it) told
+
+-- The same of the steps among some lines.
 pub record IsDoubtOfSteps (text : List ℕ) (lines : List TextLine) (scramble : List ℕ) (told : Option Doubt) : Type 0 where
   pub steps : List ℕ
   pub places : List ℕ
-  pub part : PartAnswer
   pub are_steps : AreWritten text EachStep lines steps places
-  pub tells : TellsPart scramble steps part
-  pub told_is : IsOrElse (doubt_of_part part places) (λ it. IsWholeDoubt scramble steps text lines it) told
+  pub is_doubt : IsDoubtOfWritten scramble steps places text lines told
 
 -- What isn't solved is in doubt by its scramble if that is solved by itself, else by its steps, else by another attempt that
 -- stands in these.

@@ -237,18 +237,26 @@ answer_of bounds (found.Repeated step) =
 answer_of bounds found.InCapitals = record { status = status_number Done; how = 7; first = 0; last = number_of_steps bounds - 1; begin = 0 }
 answer_of bounds found.Nothing = no_part Done
 
+-- This is the answer to steps that begin and end at these places, after a scramble as it is read.
+abbrev pub IsAnswerTo : Result Moves ReadFault → (steps bounds : List ℕ) → PartAnswer → Type 0
+IsAnswerTo scramble steps bounds answer =
+    (it : Found) × IsFound (number_of_steps bounds) (solves_part scramble steps bounds) (λ reading. solves_all reading scramble steps bounds)
+    (solves_with scramble steps bounds) (solves_repeated scramble steps bounds) it
+    × (answer ≡ answer_of bounds it)
+
 -- What a call tells of a scramble and steps, which begin and end at these places, and of which one is too long or none is.
 abbrev pub Tells : Bool → (scramble steps bounds : List ℕ) → PartAnswer → Type 0
 Tells true scramble steps bounds answer = answer ≡ no_part Stopped
-Tells false scramble steps bounds answer =
-    (it : Found) × IsFound (number_of_steps bounds) (solves_part (read_line scramble) steps bounds) (λ reading. solves_all reading (read_line scramble) steps bounds)
-    (solves_with (read_line scramble) steps bounds) (solves_repeated (read_line scramble) steps bounds) it
-    × (answer ≡ answer_of bounds it)
+Tells false scramble steps bounds answer = IsAnswerTo (read_line scramble) steps bounds answer
 
 -- the steps that are looked at
 abbrev pub first_steps : List ℕ → List ℕ
 first_steps text = take (end_of_steps (bounds_of text)) text
 
+-- A scramble or the steps up to their last end have too many bytes.
+abbrev pub are_too_long : (scramble : List ℕ) → (end : ℕ) → Bool
+are_too_long scramble end = nat_lt most_bytes (length scramble) || nat_lt most_step_bytes end
+
 abbrev pub TellsPart : (scramble steps : List ℕ) → PartAnswer → Type 0
 TellsPart scramble steps answer = let bounds = bounds_of steps in
-    Tells (nat_lt most_bytes (length scramble) || nat_lt most_step_bytes (end_of_steps bounds)) scramble (first_steps steps) bounds answer
+    Tells (are_too_long scramble (end_of_steps bounds)) scramble (first_steps steps) bounds answer

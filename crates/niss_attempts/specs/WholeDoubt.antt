@@ -8,7 +8,7 @@ use Rattle.niss_text.specs.declared.text_line.TextLine.{TextLine}
 use Rattle.niss_attempts.specs.Doubts.{OrElse}
 use Rattle.niss_attempts.specs.LostTurn.{IsLostIn}
 use Rattle.niss_attempts.specs.MovedStep.{IsMovedIn}
-use Rattle.niss_attempts.specs.Parts.{bounds_of, most_step_bytes, number_of_steps}
+use Rattle.niss_attempts.specs.Parts.{bounds_of, first_steps, most_step_bytes, number_of_steps}
 use Rattle.niss_attempts.specs.ShownTurn.{steps_among}
 use Rattle.niss_attempts.specs.TurnedCube.{IsTurnedIn}
 use Rattle.niss_attempts.specs.declared.doubts.Doubt.{Doubt}
@@ -28,10 +28,12 @@ abbrev pub IsWholeDoubtIn : Result Moves ReadFault → (steps bounds text : List
 IsWholeDoubtIn scramble steps bounds text lines told =
     OrElse (λ it. IsLostIn scramble steps bounds text lines it) (λ it. IsTurnedOrMovedIn scramble steps bounds lines it) told
 
-abbrev pub TellsWhole : (is_beyond : Bool) → (scramble steps text : List ℕ) → List TextLine → Option Doubt → Type 0
-TellsWhole true scramble steps text lines told = told ≡ None
-TellsWhole false scramble steps text lines told = IsWholeDoubtIn (read_line scramble) steps (bounds_of steps) text lines told
+-- The same of steps that aren't beyond what is looked at. Of others nothing is told.
+abbrev pub TellsWhole : (is_beyond : Bool) → Result Moves ReadFault → (steps bounds text : List ℕ) → List TextLine → Option Doubt → Type 0
+TellsWhole true scramble steps bounds text lines told = told ≡ None
+TellsWhole false scramble steps bounds text lines told = IsWholeDoubtIn scramble steps bounds text lines told
 
 -- The same of an attempt with a scramble, if its steps aren't too many, nor too long.
 abbrev pub IsWholeDoubt : (scramble steps text : List ℕ) → List TextLine → Option Doubt → Type 0
-IsWholeDoubt scramble steps text lines told = TellsWhole (is_beyond scramble steps lines) scramble steps text lines told
+IsWholeDoubt scramble steps text lines told =
+    TellsWhole (is_beyond scramble steps lines) (read_line scramble) (first_steps steps) (bounds_of steps) text lines told

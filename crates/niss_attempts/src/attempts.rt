@@ -21,9 +21,8 @@ use crate::attempts::written::{NONE, NoRoom, moves_of, place_at};
 use crate::doubts::another::doubt_of_another;
 use crate::doubts::beside::doubt_beside;
 use crate::doubts::inner_attempt::doubt_within;
-use crate::doubts::whole_doubt::doubt_of_whole;
+use crate::doubts::whole_doubt::doubt_of_written;
 use crate::doubts::{Doubt, Reason, first_doubt, first_stray};
-use crate::steps::parts::solving_part;
 use niss_lines::{CheckAnswer, check_line};
 use niss_text::{MovesOf, TextLine};
 
@@ -46,7 +45,7 @@ pub struct Given<'a> {
     pub doubt: Option<Doubt>,
 }
 
-/// Where a fault stands that a check tells of a scramble or a solution.
+/// Where a fault stands that a check tells of a scramble or a solution, in bytes of the text; `NONE` if there is none.
 fn fault_place(check: &CheckAnswer, scramble_places: &[u64], solution_places: &[u64]) -> usize
     ensures { result ≡ fault_place check.now scramble_places.now solution_places.now }
 {
@@ -74,8 +73,8 @@ impl Outcome {
     }
 }
 
-/// What makes one doubt an attempt that isn't solved: that a part of its steps solves, or that they do with a turn that was
-/// lost, and the text shows it, or with a rotation of the whole cube, or with one of them elsewhere.
+/// What makes one doubt an attempt that isn't solved, by its steps: that a part of them solves, or that all do with a turn
+/// that was lost, and the text shows it, or with a rotation of the whole cube, or with one of them elsewhere.
 fn doubt_of_steps(
     text: &[u8],
     lines: &[TextLine],
@@ -87,10 +86,8 @@ fn doubt_of_steps(
     ensures room { IsOkIfRoom (most_bytes lines.now) out.old places.old result }
 {
     let count = moves_of(text, lines, MovesOf::EachStep, out, places)?;
-    let steps = &out[..count];
-    let part = solving_part(scramble, steps);
-    let of_part = Doubt::of_part(&part, &places[..count]);
-    Ok(of_part.or_else(|| doubt_of_whole(scramble, steps, text, lines)))
+    let told = doubt_of_written(scramble, &out[..count], &places[..count], text, lines);
+    Ok(told)
 }
 
 impl Given<'_> {

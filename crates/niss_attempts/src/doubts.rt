@@ -21,7 +21,7 @@ use niss_text::TextLine;
 /// Why one doubts it.
 #[derive(Clone, Copy)]
 pub enum Reason {
-    /// What a line says, by its number: lines come from callers.
+    /// The number that a line has, whatever that is: callers make the lines, so it needn't be that of a doubt of `niss_text`.
     OfLine(u8),
     /// The scramble is solved by itself, or another one stands beside a known one.
     AnotherScramble,
@@ -44,7 +44,7 @@ pub enum Reason {
 }
 
 impl Reason {
-    /// Its number.
+    /// Its number in an answer. Such a number of a line means the same; `niss_text` gives no line 9, 10 or 13.
     pub(crate) fn number(self) -> u8
         ensures { result ≡ number_of self }
     {
@@ -67,7 +67,7 @@ impl Reason {
 #[derive(Clone, Copy)]
 pub struct Doubt {
     pub reason: Reason,
-    /// Where it stands in the text.
+    /// Where it stands, in bytes of the text, or `NONE` if it has no place there.
     pub at: usize,
 }
 
@@ -76,13 +76,10 @@ impl Doubt {
     pub(crate) fn begun_in(lines: &[TextLine]) -> Option<Doubt>
         ensures { result ≡ begun_in lines.now }
     {
-        match lines.first() {
-            Some(line) => Some(Doubt {
-                reason: Reason::AnotherAttempt,
-                at: line.moves,
-            }),
-            None => None,
-        }
+        lines.first().map(|line| Doubt {
+            reason: Reason::AnotherAttempt,
+            at: line.moves,
+        })
     }
 
     /// That a part solves which begins at a byte of the steps, by the place of each of these.

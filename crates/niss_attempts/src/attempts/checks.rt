@@ -20,7 +20,7 @@ use niss_text::{KnownPart, TextLine};
 pub struct AttemptCheck {
     /// Which of the known scrambles it is of, from 0, or the highest number.
     pub scramble: usize,
-    /// Where the head of its part stands; both are 0 if it has none.
+    /// Where the head of its part stands, in bytes of the text; both are 0 if it has none.
     pub name_begin: usize,
     pub name_end: usize,
     /// Its lines, and what is said of them.

@@ -23,7 +23,7 @@ use niss_text::{MovesOf, TextLine};
 /// With how many known scrambles a solution is tried that doesn't solve its own.
 const MOST_TRIED: usize = 64;
 
-/// Scrambles that are known, one after another, and where each ends.
+/// Scrambles that are known, one after another, and where each ends, in their bytes. Callers make these places, so any number may be one.
 #[derive(Clone, Copy)]
 pub struct Known<'a> {
     pub scrambles: &'a [u8],
@@ -35,7 +35,7 @@ pub struct Known<'a> {
 pub struct Found {
     /// It makes the same cube.
     pub is_same: bool,
-    /// Where its first move stands.
+    /// Where its first move stands, in bytes of the text, or `NONE` if it has none.
     pub at: usize,
 }
 
@@ -47,10 +47,7 @@ impl Known<'_> {
         if number == 0 {
             return 0;
         }
-        match self.ends.get(number - 1) {
-            Some(end) => *end as usize,
-            None => 0,
-        }
+        self.ends.get(number - 1).map_or(0, |end| *end as usize)
     }
 
     /// The same number, if there is such a scramble, or the highest one.
@@ -77,10 +74,8 @@ impl Known<'_> {
     fn is_solved_by(&self, number: usize, solution: &Niss) -> bool
         ensures { (line : List ℕ) → IsReadAs line solution.now → result ≡ solves_known self.now.scrambles.now self.now.ends.now line number }
     {
-        match self.scramble(number) {
-            Some(scramble) => is_solved(scramble, solution),
-            None => false,
-        }
+        self.scramble(number)
+            .is_some_and(|scramble| is_solved(scramble, solution))
     }
 
     /// Whether a solution that was read solves one of the first scrambles.
@@ -162,7 +157,7 @@ pub struct Solution<'a> {
     pub others: &'a [TextLine],
     pub scramble: &'a [u8],
     pub known: Known<'a>,
-    /// Where the part begins.
+    /// Where the part begins, in bytes of the text.
     pub begin: usize,
 }
 

@@ -11,7 +11,7 @@ use niss_text::TextLine;
 /// The kind of a line of a scramble, by the number of `niss_text`.
 const SCRAMBLE_LINE: u8 = 2;
 
-/// The lines of an attempt among others: which is the first one, and which the first after them.
+/// The lines of an attempt among others: which is the first one, from 0, and which the first after them.
 #[repr(C)]
 #[derive(Clone, Copy, Debug, PartialEq, Eq)]
 pub struct Run {

@@ -1,5 +1,5 @@
-//! Which lines of a text are steps, and of the solution.
-ghost use Rattle.std.specs.Prelude.{◌≡◌, ◌==◌};
+//! Which lines of a text are steps, and of the solution, and how long their moves are.
+ghost use Rattle.std.specs.Prelude.{◌≡◌, ◌==◌, ◌-◌};
 ghost use Rattle.std.specs.List.{list_any};
 ghost use Rattle.niss_text.specs.Moves.{is_wanted};
 ghost use Rattle.niss_text.specs.declared.moves.MovesOf.TheVariants.{Solution};
@@ -16,6 +16,13 @@ pub(crate) fn is_step(line: &TextLine) -> bool
     line.kind == STEP_LINE
 }
 
+/// How many bytes the moves of a line have, with what stands between them.
+pub(crate) fn length_of_moves(line: &TextLine) -> usize
+    ensures { result ≡ line.now.comment - line.now.moves }
+{
+    line.comment.saturating_sub(line.moves)
+}
+
 /// Whether a line is of a solution.
 pub(crate) fn is_of_solution(line: &TextLine) -> bool
     ensures { result ≡ is_wanted Solution line.now }
@@ -23,7 +30,7 @@ pub(crate) fn is_of_solution(line: &TextLine) -> bool
     line.kind == STEP_LINE && line.is_solution != 0
 }
 
-/// Whether one of some lines is.
+/// Whether one of some lines is of a solution.
 pub(crate) fn has_solution(lines: &[TextLine]) -> bool
     ensures { result ≡ list_any (is_wanted Solution) lines.now }
 {

@@ -48,19 +48,13 @@ impl Told {
     pub(crate) fn number(self) -> u8
         ensures { result ≡ number_if self.doubt }
     {
-        match self.doubt {
-            Some(doubt) => doubt.reason.number(),
-            None => 0,
-        }
+        self.doubt.map_or(0, |doubt| doubt.reason.number())
     }
 
     /// The place of the doubt, if there is one.
     pub(crate) fn place(self) -> usize
         ensures { result ≡ place_of self.doubt }
     {
-        match self.doubt {
-            Some(doubt) => doubt.at,
-            None => NONE,
-        }
+        self.doubt.map_or(NONE, |doubt| doubt.at)
     }
 }

@@ -12,17 +12,14 @@ pub(crate) const NONE: usize = usize::MAX;
 #[derive(Clone, Copy)]
 pub struct NoRoom;
 
-/// The place of a byte of a line, if it has one.
+/// The place in the text of a byte of a line, from 0, or `NONE` if it has none.
 pub(crate) fn place_at(places: &[u64], byte: usize) -> usize
     ensures { result ≡ get_or places.now byte no_place }
 {
-    match places.get(byte) {
-        Some(place) => *place as usize,
-        None => NONE,
-    }
+    places.get(byte).map_or(NONE, |place| *place as usize)
 }
 
-/// Writes the moves of some lines, and says how many bytes these are.
+/// Writes the moves of some lines, and the place of each byte, and says how many bytes these are.
 pub(crate) fn moves_of(
     text: &[u8],
     lines: &[TextLine],

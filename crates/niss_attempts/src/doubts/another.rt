@@ -5,7 +5,7 @@ ghost use Rattle.niss_text.specs.declared.text_line.TextLine.{TextLine};
 ghost use Rattle.niss_attempts.specs.Another.{IsBegun, IsBegunAgain, IsSolvedBy, is_long, may_begin, most_lines_tried};
 ghost use Rattle.niss_attempts.specs.Doubts.{IsOkIfRoom};
 
-use crate::attempts::step_lines::{has_solution, is_of_solution};
+use crate::attempts::step_lines::{has_solution, is_of_solution, length_of_moves};
 use crate::attempts::written::{NoRoom, moves_of};
 use crate::doubts::Doubt;
 use niss_lines::check_line;
@@ -78,7 +78,7 @@ pub(crate) fn first_begun<S: Sought>(
 pub(crate) fn is_long(line: &TextLine) -> bool
     ensures { result ≡ is_long line.now }
 {
-    line.comment.saturating_sub(line.moves) >= LEAST_BYTES
+    length_of_moves(line) >= LEAST_BYTES
 }
 
 /// Whether the lines of the solution among some lines solve a scramble.

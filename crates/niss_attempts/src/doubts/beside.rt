@@ -16,7 +16,7 @@ ghost use Rattle.niss_attempts.specs.declared.doubts.Reason.TheVariants.{Another
 
 mod near;
 
-use crate::attempts::step_lines::is_step;
+use crate::attempts::step_lines::{is_step, length_of_moves};
 use crate::attempts::written::{NoRoom, moves_of};
 use crate::doubts::beside::near::are_near;
 use crate::doubts::{Doubt, Reason};
@@ -62,8 +62,7 @@ pub struct Solved<'a> {
 fn is_long_other(line: &TextLine) -> bool
     ensures { result ≡ is_long_other line.now }
 {
-    let is_long = line.comment.saturating_sub(line.moves) >= SCRAMBLE_BYTES;
-    (is_step(line) && line.is_solution == 0) && is_long
+    (is_step(line) && line.is_solution == 0) && length_of_moves(line) >= SCRAMBLE_BYTES
 }
 
 /// Whether one of some lines is such a step.

@@ -4,20 +4,20 @@ ghost use Rattle.niss_text.specs.Moves.{most_bytes};
 ghost use Rattle.niss_attempts.specs.InnerAttempt.{IsBegunIn, IsBegunWithin, may_be_scramble};
 ghost use Rattle.niss_attempts.specs.Doubts.{IsOkIfRoom};
 
-use crate::attempts::step_lines::{has_solution, is_step};
+use crate::attempts::step_lines::{has_solution, is_step, length_of_moves};
 use crate::attempts::written::{NoRoom, moves_of};
 use crate::doubts::Doubt;
 use crate::doubts::another::{Sought, first_begun, is_long, is_solved_by};
 use niss_text::{MovesOf, TextLine};
 use std::slice::from_ref;
 
-/// How much of a room the moves of a line take at most.
+/// How many bytes of a room the moves of a line take at most: three for each of theirs, and three.
 fn room_of(line: &TextLine, room: usize) -> usize
     ensures fits { result ≤ room }
     ensures few { result ≤ most_bytes (line.now ∷ []) }
     ensures enough { most_bytes (line.now ∷ []) ≤ room → most_bytes (line.now ∷ []) ≤ result }
 {
-    let moves = line.comment.saturating_sub(line.moves);
+    let moves = length_of_moves(line);
     moves.saturating_mul(3).saturating_add(3).min(room)
 }
 

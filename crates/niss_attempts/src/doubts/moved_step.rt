@@ -17,7 +17,8 @@ use arrayvec::ArrayVec;
 use niss_moves::LineReader;
 use niss_text::TextLine;
 
-/// Steps that change places: those from a first place to a middle one stand after those from there to a last place.
+/// Steps that change places: those from a first place to a middle one stand after those from there to a last place. A place is
+/// before the step of its number, from 0, or after the last step.
 #[derive(Clone, Copy)]
 pub struct Exchange {
     pub first: usize,

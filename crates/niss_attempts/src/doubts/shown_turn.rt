@@ -306,40 +306,33 @@ impl<'a> Border<'a> {
     fn said_in(&self, step: &Option<TextLine>, face: Face) -> Option<usize>
         ensures { result ≡ said_in_step self.now.text.now step.now face }
     {
-        match step {
-            Some(line) => said_in(self.text, line, face),
-            None => None,
-        }
+        step.as_ref()
+            .and_then(|line| said_in(self.text, line, face))
     }
 
     /// Whether the comment of a step may have some face.
     fn may_say(&self, step: &Option<TextLine>) -> bool
         ensures { result ≡ false → (face : Face) → said_in_step self.now.text.now step.now face ≡ None }
     {
-        match step {
-            Some(line) => may_say(self.text, line),
-            None => false,
-        }
+        step.as_ref().is_some_and(|line| may_say(self.text, line))
     }
 
     /// Where a sign stands after the step above.
     fn last_sign(&self) -> Option<usize>
         ensures { result ≡ last_sign_of self.now.text.now self.now.above }
     {
-        match &self.above {
-            Some(line) => last_sign(self.text, line),
-            None => None,
-        }
+        self.above
+            .as_ref()
+            .and_then(|line| last_sign(self.text, line))
     }
 
     /// Where one stands before the one below.
     fn first_sign(&self) -> Option<usize>
         ensures { result ≡ first_sign_of self.now.text.now self.now.below }
     {
-        match &self.below {
-            Some(line) => first_sign(self.text, line),
-            None => None,
-        }
+        self.below
+            .as_ref()
+            .and_then(|line| first_sign(self.text, line))
     }
 
     /// Where one stands between them, if it is the only one.

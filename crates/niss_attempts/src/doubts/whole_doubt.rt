@@ -1,9 +1,9 @@
-//! What makes one doubt an attempt of which no part solves: that a turn was lost, the cube was turned, or a step was moved.
-ghost use Rattle.std.specs.Prelude.{◌≡◌, ◌<◌, ◌≤◌, Ok, length};
+//! What makes one doubt the steps of an attempt that isn't solved: a part that solves, a lost turn, a turned cube, a moved step.
+ghost use Rattle.std.specs.Prelude.{◌≡◌, ◌<◌, Ok, length};
+ghost use Rattle.niss_attempts.specs.Attempts.{IsDoubtOfRead, IsDoubtOfWritten};
 ghost use Rattle.niss_attempts.specs.Between.{AreWhole};
-ghost use Rattle.niss_attempts.specs.Corners.{AreBounds};
-ghost use Rattle.niss_attempts.specs.Parts.{bounds_of, most_step_bytes, most_bounds};
-ghost use Rattle.niss_attempts.specs.WholeDoubt.{IsTurnedOrMovedIn, IsWholeDoubt, IsWholeDoubtIn, is_beyond};
+ghost use Rattle.niss_attempts.specs.Parts.{bounds_of};
+ghost use Rattle.niss_attempts.specs.WholeDoubt.{IsTurnedOrMovedIn, IsWholeDoubtIn, is_beyond};
 
 use crate::doubts::Doubt;
 use crate::doubts::lost_turn::lost_turn;
@@ -13,9 +13,9 @@ use crate::doubts::turned_cube::turned_cube;
 use crate::steps::WholeSteps;
 use crate::steps::bounds::bounds_of;
 use crate::steps::corners::AttemptCorners;
-use crate::steps::parts::MOST_STEP_BYTES;
+use crate::steps::parts::{MOST_STEP_BYTES, answer_to, are_too_long, first_bytes};
 use niss_lines::read_by;
-use niss_moves::{LineReader, Niss};
+use niss_moves::LineReader;
 use niss_shell::MOST_BYTES;
 use niss_text::TextLine;
 
@@ -40,50 +40,64 @@ fn turned_or_moved(whole: &WholeSteps, lines: &[TextLine]) -> Option<Doubt>
     }
 }
 
-/// The doubt of steps that begin and end at these places.
-fn doubt_of_steps(
-    scramble: &Niss,
-    steps: &[u8],
-    bounds: &[usize],
-    text: &[u8],
-    lines: &[TextLine],
-) -> Option<Doubt>
-    requires few { (0 < length bounds.now) × (length bounds.now ≤ most_bounds) }
-    requires bounds { AreBounds bounds.now }
-    requires room { length steps.now ≤ most_step_bytes }
-    ensures { IsWholeDoubtIn (Ok scramble.now) steps.now bounds.now text.now lines.now result }
+/// The doubt that with a turn before a step, or after the last one, all steps solve the scramble, and that the text shows it
+/// there; or else that they do if the cube is turned before one; or else if one stands elsewhere. The steps stand a line each.
+fn doubt_of_whole(whole: &WholeSteps, text: &[u8], lines: &[TextLine]) -> Option<Doubt>
+    requires whole { AreWhole whole.now }
+    ensures { IsWholeDoubtIn (Ok whole.now.scramble.now) whole.now.steps.now whole.now.bounds.now text.now lines.now result }
 {
-    let corners = AttemptCorners::of(scramble, steps, bounds);
-    let whole = WholeSteps {
-        scramble,
-        steps,
-        bounds,
-        corners: &corners,
-    };
-    match lost_turn(&whole, text, lines) {
+    match lost_turn(whole, text, lines) {
         Some(lost) => Some(lost),
-        None => turned_or_moved(&whole, lines),
+        None => turned_or_moved(whole, lines),
     }
 }
 
-/// The doubt that with a turn before a step of an attempt, or after the last one, all steps solve the scramble, and that the
-/// text shows it there; or else that they do if the cube is turned before one; or else if one stands elsewhere. The steps stand a
-/// line each.
-pub fn doubt_of_whole(
-    scramble: &[u8],
-    steps: &[u8],
+/// The doubt that a part of all steps solves, by the place of each of their bytes; or else the same, unless they are beyond
+/// what is looked at.
+fn doubt_of_read(
+    whole: &WholeSteps,
+    places: &[u64],
+    is_beyond: bool,
     text: &[u8],
     lines: &[TextLine],
 ) -> Option<Doubt>
-    ensures { IsWholeDoubt scramble.now steps.now text.now lines.now result }
+    requires whole { AreWhole whole.now }
+    ensures { IsDoubtOfRead (Ok whole.now.scramble.now) is_beyond whole.now.steps.now whole.now.bounds.now places.now text.now lines.now result }
+{
+    let of_part = Doubt::of_part(&answer_to(whole), places);
+    if is_beyond || of_part.is_some() {
+        return of_part;
+    }
+    doubt_of_whole(whole, text, lines)
+}
+
+/// The same of steps as they are written, after a scramble. Both are read once.
+pub(crate) fn doubt_of_written(
+    scramble: &[u8],
+    steps: &[u8],
+    places: &[u64],
+    text: &[u8],
+    lines: &[TextLine],
+) -> Option<Doubt>
+    ensures { IsDoubtOfWritten scramble.now steps.now places.now text.now lines.now result }
 {
     let bounds = bounds_of(steps);
-    if is_beyond(scramble, steps, &bounds, lines) {
+    let end = bounds[bounds.len() - 1];
+    if are_too_long(scramble, end) {
         return None;
     }
     let mut reader = LineReader::new();
-    match read_by(&mut reader, scramble) {
-        Ok(scramble) => doubt_of_steps(scramble, steps, &bounds, text, lines),
-        Err(_) => None,
-    }
+    let Ok(moves) = read_by(&mut reader, scramble) else {
+        return None;
+    };
+    let steps_read = first_bytes(steps, end);
+    let corners = AttemptCorners::of(moves, steps_read, &bounds);
+    let whole = WholeSteps {
+        scramble: moves,
+        steps: steps_read,
+        bounds: &bounds,
+        corners: &corners,
+    };
+    let is_beyond = is_beyond(scramble, steps, &bounds, lines);
+    doubt_of_read(&whole, places, is_beyond, text, lines)
 }

@@ -98,13 +98,13 @@ impl Depth {
 fn is_shut(step: &[u8], reading: Reading) -> bool
     ensures { result ≡ true → IsShut (map (read_byte reading) step.now) }
 {
-    match (
-        Depth::Out.after(step, reading),
-        Depth::In.after(step, reading),
-    ) {
-        (Depth::Wrong, Depth::Out | Depth::Wrong) => true,
-        _ => false,
-    }
+    matches!(
+        (
+            Depth::Out.after(step, reading),
+            Depth::In.after(step, reading),
+        ),
+        (Depth::Wrong, Depth::Out | Depth::Wrong)
+    )
 }
 
 /// Whether no line of steps in which a step stands can be read. It is asked of one that is no line.

@@ -1,11 +1,11 @@
 //! Whether a part of the steps of an attempt solves its scramble.
-ghost use Rattle.std.specs.Prelude.{◌≡◌, ◌<◌, ◌≤◌, ◌+◌, ◌-◌, [], Ok, length, map, take};
+ghost use Rattle.std.specs.Prelude.{◌≡◌, ◌<◌, ◌≤◌, ◌+◌, ◌-◌, [], Ok, false, length, map, take};
 ghost use Rattle.niss_moves.specs.Reader.{IsFed, read_line};
 ghost use Rattle.niss_attempts.specs.Parts.{read_byte, how_number, number_of_steps, arranged, solves_all, solves_part, solves_repeated, solves_with, part, most_step_bytes, most_bounds};
 ghost use Rattle.niss_shell.specs.Words.{most_bytes};
 ghost use Rattle.niss_attempts.specs.Corners.{AreBounds, IsAroundPart};
 ghost use Rattle.niss_attempts.specs.Between.{AreWhole};
-ghost use Rattle.niss_attempts.specs.Parts.{IsHow, IsFirst, IsFirstFrom, IsFound, IsWithin, TellsPart, answer_of, no_part};
+ghost use Rattle.niss_attempts.specs.Parts.{IsAnswerTo, IsHow, IsFirst, IsFirstFrom, IsFound, IsWithin, TellsPart, answer_of, are_too_long, no_part};
 ghost use Rattle.niss_attempts.specs.declared.steps.reading.Reading.TheVariants.{AsWritten};
 
 use crate::steps::WholeSteps;
@@ -31,11 +31,11 @@ pub struct PartAnswer {
     /// 0 if nothing solves, 1 to 3 in the order of `How`, 4 if all steps solve without their brackets, 5 if some in brackets,
     /// 6 if one is made several times, 7 if their small letters are capitals.
     pub how: u8,
-    /// The first step of the part, or of those in brackets, from 0.
+    /// The first step of the part, or of those in brackets, from 0 to 11.
     pub first: u8,
     /// The last of them.
     pub last: u8,
-    /// Where the first one begins.
+    /// Where the first one begins, in bytes of the steps.
     pub begin: usize,
 }
 
@@ -67,6 +67,7 @@ impl How {
 #[derive(Clone, Copy)]
 pub struct Part {
     pub how: How,
+    /// The first step of them, from 0.
     pub first: usize,
     /// The first step after them.
     pub end: usize,
@@ -88,7 +89,7 @@ pub enum Found {
 }
 
 /// The first bytes of a text, so many at most.
-fn first_bytes(text: &[u8], count: usize) -> &[u8]
+pub(crate) fn first_bytes(text: &[u8], count: usize) -> &[u8]
     ensures is { result.now ≡ take count text.now }
     ensures few { length result.now ≤ count }
 {
@@ -231,6 +232,14 @@ fn found_in(whole: &WholeSteps) -> Found
     }
 }
 
+/// The answer to all steps.
+pub(crate) fn answer_to(whole: &WholeSteps) -> PartAnswer
+    requires whole { AreWhole whole.now }
+    ensures { IsAnswerTo (Ok whole.now.scramble.now) whole.now.steps.now whole.now.bounds.now result }
+{
+    PartAnswer::of(found_in(whole), whole.bounds)
+}
+
 /// What is found in steps that begin and end at these places.
 fn found_between(scramble: &Niss, steps: &[u8], bounds: &[usize]) -> Found
     requires some { (0 < length bounds.now) × (length bounds.now ≤ most_bounds) }
@@ -263,6 +272,14 @@ fn found_after(scramble: &[u8], text: &[u8], bounds: &[usize]) -> Found
         Ok(scramble) => found_between(scramble, text, bounds),
         Err(_) => Found::Nothing,
     }
+}
+
+/// Whether a scramble or steps up to their last end have too many bytes.
+pub(crate) fn are_too_long(scramble: &[u8], end: usize) -> bool
+    ensures are { result ≡ are_too_long scramble.now end }
+    ensures else_fit { result ≡ false → (length scramble.now ≤ most_bytes) × (end ≤ most_step_bytes) }
+{
+    scramble.len() > MOST_BYTES || end > MOST_STEP_BYTES
 }
 
 impl PartAnswer {
@@ -325,14 +342,15 @@ impl PartAnswer {
 
 /// Whether a part of the first steps of an attempt solves its scramble, and which: the first in order of `IsBefore`. Else
 /// whether all do without their brackets; with some in brackets of their own, those with the lowest number; or with one
-/// made twice or three times, the first; or with capitals for the small letters of turns. Steps stand a line each. What has a fault doesn't solve, and nothing does if the
-/// scramble has one. The answer says `Stopped` if the scramble or these steps have too many bytes.
+/// made twice or three times, the first; or with capitals for the small letters of turns. Steps stand a line each: the first
+/// twelve are looked at, and sets of the first eight. What has a fault doesn't solve, and nothing does if the scramble has
+/// one. The answer says `Stopped` if the scramble or these steps have too many bytes.
 pub fn solving_part(scramble: &[u8], steps: &[u8]) -> PartAnswer
     ensures { TellsPart scramble.now steps.now result }
 {
     let bounds = bounds_of(steps);
     let end = bounds[bounds.len() - 1];
-    if scramble.len() > MOST_BYTES || end > MOST_STEP_BYTES {
+    if are_too_long(scramble, end) {
         return PartAnswer::nothing(Status::Stopped);
     }
     let found = found_after(scramble, first_bytes(steps, end), &bounds);

@@ -48,20 +48,14 @@ fn bare_first(text: &[u8], line: &TextLine) -> Option<usize>
 fn bare_last_of(text: &[u8], step: &Option<TextLine>) -> Option<usize>
     ensures { result ≡ bare_last_of text.now step.now }
 {
-    match step {
-        Some(line) => bare_last(text, line),
-        None => None,
-    }
+    step.as_ref().and_then(|line| bare_last(text, line))
 }
 
 /// Where its moves begin, if it has some that begin so.
 fn bare_first_of(text: &[u8], step: &Option<TextLine>) -> Option<usize>
     ensures { result ≡ bare_first_of text.now step.now }
 {
-    match step {
-        Some(line) => bare_first(text, line),
-        None => None,
-    }
+    step.as_ref().and_then(|line| bare_first(text, line))
 }
 
 /// A place at which the capital letter of a face stands.

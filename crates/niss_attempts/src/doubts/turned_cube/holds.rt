@@ -93,10 +93,7 @@ fn suffix_if(rotation: Option<(Axis, Power)>) -> u8
 fn about_vertical(vertical: Option<Power>) -> Option<(Axis, Power)>
     ensures { result ≡ about_vertical vertical }
 {
-    match vertical {
-        Some(power) => Some((Axis::Ud, power)),
-        None => None,
-    }
+    vertical.map(|power| (Axis::Ud, power))
 }
 
 /// A rotation of the whole cube as moves, between blanks.
