@@ -8,7 +8,7 @@ use Rattle.std.proofs.lemmas.List.Elements.{All-append}
 use Rattle.std.proofs.lemmas.List.Folds.{list_any-append, list_any_none, concat-append}
 use Rattle.niss_text.specs.Signs.{HasNoMoves, AreSigns, is_digit, is_spacing, ends_title, begins_count}
 use Rattle.niss_text.proofs.SpacingLemmas.{signs_none, signs_joined, signs_more, signs_empty, spacing_ends}
-use Rattle.niss_text.specs.Kept.{HasNoLetters, BeginNoMoves, HasOnlyWords, IsCount, IsTitleEnd, LosesNone, words_of_count, words_of_any_head, words_of_head, small}
+use Rattle.niss_text.specs.Kept.{HasNoLetters, BeginNoMoves, HasOnlyWords, IsCount, IsTitleEnd, LosesNone, words_of_count, words_before_scramble, words_of_any_head, words_of_head, words_of_name, words_of_title, small}
 unfoldable use Rattle.niss_text.specs.Signs.{is_of_moves}
 unfoldable use Rattle.niss_text.specs.Kept.{spells, begins_moves}
 
@@ -105,17 +105,48 @@ only_word words bytes word = record {
   each = all_one words bytes (inr word);
 }
 
--- what has only words of a head has only those of any
-pub any_head : (bytes : List ℕ) → HasOnlyWords words_of_head bytes → HasOnlyWords words_of_any_head bytes
-any_head bytes only = record {
+-- what has only some words has only those of more
+only_wider : (words more : List (List ℕ)) → ((word : List ℕ) → Contains words word → Contains more word) → (bytes : List ℕ) → HasOnlyWords words bytes → HasOnlyWords more bytes
+only_wider words more among bytes only = record {
   parts = only.parts;
   whole = only.whole;
   each = λ k none lt. wider (get_or only.parts k none) (only.each k none lt);
 }
   where
-    wider : (part : List ℕ) → HasNoLetters part ⊎ Contains words_of_head (map small part) → HasNoLetters part ⊎ Contains words_of_any_head (map small part)
+    wider : (part : List ℕ) → HasNoLetters part ⊎ Contains words (map small part) → HasNoLetters part ⊎ Contains more (map small part)
     wider part (inl none) = inl none
-    wider part (inr word) = inr (suc (suc word.0), omega (arith, word.1), word.2)
+    wider part (inr word) = inr (among (map small part) word)
+
+pub any_head : (bytes : List ℕ) → HasOnlyWords words_of_head bytes → HasOnlyWords words_of_any_head bytes
+any_head bytes only = only_wider words_of_head words_of_any_head (λ word is. (suc (suc is.0), omega (arith, is.1), is.2)) bytes only
+
+title_of_head : (word : List ℕ) → Contains words_of_title word → Contains words_of_head word
+title_of_head word (zero, lt, is) = (zero, omega arith, is)
+title_of_head word (suc zero, lt, is) = (1, omega arith, is)
+title_of_head word (suc (suc zero), lt, is) = (2, omega arith, is)
+title_of_head word (suc (suc (suc zero)), lt, is) = (3, omega arith, is)
+title_of_head word (suc (suc (suc (suc k))), lt, is) = absurd (omega (arith, lt))
+
+pub title_head : (bytes : List ℕ) → HasOnlyWords words_of_title bytes → HasOnlyWords words_of_head bytes
+title_head bytes only = only_wider words_of_title words_of_head title_of_head bytes only
+
+before_title : (word : List ℕ) → Contains words_before_scramble word → Contains words_of_title word
+before_title word (zero, lt, is) = (zero, omega arith, is)
+before_title word (suc zero, lt, is) = (1, omega arith, is)
+before_title word (suc (suc zero), lt, is) = (2, omega arith, is)
+before_title word (suc (suc (suc k)), lt, is) = absurd (omega (arith, lt))
+
+name_of_head : (word : List ℕ) → Contains words_of_name word → Contains words_of_any_head word
+name_of_head word (zero, lt, is) = (zero, omega arith, is)
+name_of_head word (suc zero, lt, is) = (1, omega arith, is)
+name_of_head word (suc (suc k), lt, is) = absurd (omega (arith, lt))
+
+pub name_word : (bytes : List ℕ) → Contains words_of_name (map small bytes) → HasOnlyWords words_of_any_head bytes
+name_word bytes word = only_word words_of_any_head bytes (name_of_head (map small bytes) word)
+
+-- a word before a scramble
+pub title_word : (bytes : List ℕ) → Contains words_before_scramble (map small bytes) → HasOnlyWords words_of_title bytes
+title_word bytes word = only_word words_of_title bytes (before_title (map small bytes) word)
 
 pub only_joined : (words : List (List ℕ)) (first others : List ℕ) → HasOnlyWords words first → HasOnlyWords words others → HasOnlyWords words (first ++ others)
 only_joined words first others a b = record {

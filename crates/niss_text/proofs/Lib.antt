@@ -25,7 +25,9 @@ pub mod HeadsOfLines
 pub mod SaidLemmas
 pub mod GroupLemmas
 pub mod FrontLemmas
+pub mod TitleLemmas
 pub mod ListedWords
 pub mod GroupedLines
 pub mod NotationLemmas
 pub mod WordedLemmas
+pub mod CallerLemmas

@@ -1,7 +1,9 @@
 -- One more line of a text.
-use Rattle.std.proofs.Common.{◌≡◌, ℕ, zero, suc, ◌+◌, ◌-◌, ◌<◌, ◌≤◌, ◌⊎◌, inl, inr, List, [], ◌∷◌, ◌++◌, length, take, drop, set, get_or, zero-add, refl, sym, subst, ap, ◌∙◌, arith}
+use Rattle.std.proofs.Common.{◌≡◌, ℕ, zero, suc, ◌+◌, ◌-◌, ◌<◌, ◌≤◌, ◌⊎◌, inl, inr, List, [], ◌∷◌, ◌++◌, length, take, drop, set, get_or, slice_range, zero-add, refl, sym, subst, ap, ◌∙◌, arith}
 use Rattle.std.proofs.lemmas.Bool.{cases_lt}
 use Rattle.std.proofs.lemmas.List.{take_more_set, take-take, take_all, set_past, drop-set-lt, drop-drop, get_or-drop, length-drop}
+use Rattle.std.specs.List.{All}
+use Rattle.std.proofs.lemmas.List.Elements.{All-nil, All-cons}
 use Rattle.niss_text.specs.declared.text_line.TextLine.{TextLine}
 use Rattle.niss_text.specs.Signs.{ends_line}
 use Rattle.niss_text.specs.Lines.{Covers, IsLine, IsTold, IsUnbroken, IsEnd, end_of, end_size}
@@ -128,7 +130,7 @@ unfolding AreNumbered
 numbered_none = refl
 
 -- one more line, of the next attempt
-numbered_first : (seen : ℕ) (lines : List TextLine) (all : ℕ) (line : TextLine) → AreNumbered seen lines all → line.attempt ≡ all →
+pub numbered_first : (seen : ℕ) (lines : List TextLine) (all : ℕ) (line : TextLine) → AreNumbered seen lines all → line.attempt ≡ all →
     AreNumbered seen (lines ++ line ∷ []) (all + 1)
 unfolding AreNumbered
 numbered_first seen [] all line same is = inl (is ∙ sym same, ap (λ n. n + 1) same)
@@ -136,7 +138,7 @@ numbered_first seen (l ∷ ls) all line (inl far) is = inl (far.0, numbered_firs
 numbered_first seen (l ∷ ls) all line (inr far) is = inr (far.0, numbered_first seen ls all line far.1 is)
 
 -- one more line of the same attempt
-numbered_same : (seen : ℕ) (lines : List TextLine) (all : ℕ) (line : TextLine) → AreNumbered seen lines all → line.attempt + 1 ≡ all →
+pub numbered_same : (seen : ℕ) (lines : List TextLine) (all : ℕ) (line : TextLine) → AreNumbered seen lines all → line.attempt + 1 ≡ all →
     AreNumbered seen (lines ++ line ∷ []) all
 unfolding AreNumbered
 numbered_same seen [] all line same is = inr (is ∙ sym same, same)
@@ -152,3 +154,40 @@ numbered_next lines count all at line room first more is =
     by_place : (0 < at) ⊎ (at ≤ 0) → AreNumbered 0 (take count lines ++ line ∷ []) (all + 1)
     by_place (inl later) = numbered_same 0 (take count lines) (all + 1) line (more later) (ap (λ n. n + 1) is)
     by_place (inr here) = numbered_first 0 (take count lines) all line (first (omega (arith, here))) is
+
+-- no lines, from a place on
+pub numbered_begin : (seen all : ℕ) (lines : List TextLine) (at : ℕ) → seen ≡ all → AreNumbered seen (slice_range lines at at) all
+unfolding AreNumbered
+numbered_begin seen all lines at same =
+    let none : 0 ≡ at - at = omega arith in
+    subst (λ n. AreNumbered seen (take n (drop at lines)) all) none same
+
+numbered_order : (seen : ℕ) (lines : List TextLine) (all : ℕ) → AreNumbered seen lines all → seen ≤ all
+unfolding AreNumbered
+numbered_order seen [] all same = omega (arith, same)
+numbered_order seen (l ∷ ls) all (inl far) = omega (arith, numbered_order (seen + 1) ls all far.1)
+numbered_order seen (l ∷ ls) all (inr far) = numbered_order seen ls all far.1
+
+-- one attempt is the first one
+pub numbered_one : (seen : ℕ) (lines : List TextLine) → seen ≤ 1 → AreNumbered seen lines 1 → All (λ (l : TextLine). l.attempt ≡ 0) lines
+unfolding AreNumbered
+numbered_one seen [] low far = All-nil (λ (l : TextLine). l.attempt ≡ 0)
+numbered_one seen (l ∷ ls) low (inl far) =
+    let less : seen + 1 ≤ 1 = numbered_order (seen + 1) ls 1 far.1 in
+    All-cons (λ (l : TextLine). l.attempt ≡ 0) l ls (omega (arith, far.0, less)) (numbered_one (seen + 1) ls less far.1)
+numbered_one seen (l ∷ ls) low (inr far) =
+    All-cons (λ (l : TextLine). l.attempt ≡ 0) l ls (omega (arith, far.0, low)) (numbered_one seen ls low far.1)
+
+-- no lines are of the first attempt
+pub no_attempt : (lines : List TextLine) (at : ℕ) → All (λ (l : TextLine). l.attempt ≡ 0) (slice_range lines at at)
+no_attempt lines at =
+    let none : 0 ≡ at - at = omega arith in
+    subst (λ n. All (λ (l : TextLine). l.attempt ≡ 0) (take n (drop at lines))) none (All-nil (λ (l : TextLine). l.attempt ≡ 0))
+
+-- so are those of one attempt from a place on
+pub one_attempt : (old new : List TextLine) (at n number : ℕ) → number ≡ 0 →
+    (AreNumbered 0 (slice_range old at at) number → AreNumbered 0 (slice_range new at n) (number + 1)) → All (λ (l : TextLine). l.attempt ≡ 0) (slice_range new at n)
+one_attempt old new at n number first numbers =
+    let one : number + 1 ≡ 1 = omega (arith, first) in
+    numbered_one 0 (slice_range new at n) (omega arith)
+    (subst (λ m. AreNumbered 0 (slice_range new at n) m) one (numbers (numbered_begin 0 number old at (sym first))))

@@ -1,5 +1,6 @@
 -- A text as far as it is read, and one more piece of it.
 use Rattle.std.proofs.Common.{◌≡◌, ℕ, ◌+◌, ◌-◌, ◌<◌, ◌≤◌, Bool, true, false, List, [], ◌∷◌, ◌++◌, length, take, drop, replicate, refl, sym, subst, ap, ◌∙◌, append_assoc, add-zero, arith, length-append}
+use Rattle.std.proofs.lemmas.Bool.{false≢true}
 use Rattle.std.proofs.Math.Bool.{or_assoc, or_comm}
 use Rattle.std.proofs.lemmas.List.{append-nil, take-append-drop, length-take-le, drop-drop}
 use Rattle.niss_text.specs.declared.piece.Piece.{Piece}
@@ -7,12 +8,13 @@ use Rattle.niss_text.specs.declared.piece.Place.{Place}
 use Rattle.niss_text.specs.declared.piece.Place.TheVariants.{Among, Begin}
 use Rattle.niss_text.specs.declared.left_out.LeftOut.{LeftOut}
 use Rattle.niss_text.specs.declared.pen.Beginning.{Beginning}
-use Rattle.niss_text.specs.declared.piece.Piece.TheVariants.{Kept, LineNumber}
-use Rattle.niss_text.specs.Pieces.{Part, part, IsPiece, IsFirst, MayStay, StandsBefore, written, is_begun, is_title}
+use Rattle.niss_text.specs.declared.piece.Piece.TheVariants.{Kept, Label, LineNumber}
+use Rattle.niss_text.specs.Kept.{BeginsWithTitle}
+use Rattle.niss_text.specs.Pieces.{Part, part, IsPiece, IsFirst, MayStay, StandsBefore, written, is_before_moves, is_begun, is_title, stays_before}
 use Rattle.niss_text.specs.LeftOut.{left_none, left_of, both, bits_of}
 use Rattle.niss_text.specs.Plain.{IsPlain}
 use Rattle.niss_text.specs.Written.{PutsPart}
-unfoldable use Rattle.niss_text.specs.Pieces.{text_of, line_of, places_of, ArePieces, StayRightly, BeginLines, HasNoTitle}
+unfoldable use Rattle.niss_text.specs.Pieces.{text_of, line_of, places_of, ArePieces, StayRightly, BeginLines, HasNoTitle, LeaveTitles}
 unfoldable use Rattle.niss_text.specs.LeftOut.{left_of_all}
 
 text_more : (ps : List Part) (p : Part) → text_of (ps ++ p ∷ []) ≡ text_of ps ++ p.bytes
@@ -73,6 +75,25 @@ unfolding HasNoTitle
 untitled_more [] p all one = (one, tt)
 untitled_more (q ∷ ps) p all one = (all.0, untitled_more ps p all.1 one)
 
+-- whether one is before the moves of a line after some pieces
+unfoldable pub before_after : Bool → List Part → Bool
+before_after before [] = before
+before_after before (p ∷ ps) = before_after (stays_before before p.kind) ps
+
+before_more : (before : Bool) (ps : List Part) (p : Part) → before_after before (ps ++ p ∷ []) ≡ stays_before (before_after before ps) p.kind
+unfolding before_after
+before_more before [] p = refl
+before_more before (q ∷ ps) p = before_more (stays_before before q.kind) ps p
+
+titles_more : (before : Bool) (ps : List Part) (p : Part) (rest : List ℕ) → LeaveTitles before ps (p.bytes ++ rest) →
+    (before_after before ps ≡ true → BeginsWithTitle (p.bytes ++ rest) → p.kind ≡ Label) → LeaveTitles before (ps ++ p ∷ []) rest
+unfolding LeaveTitles before_after text_of
+titles_more before [] p rest all one = (λ is title. one is (subst (λ v. BeginsWithTitle (v ++ rest)) (append-nil p.bytes) title), tt)
+titles_more before (q ∷ ps) p rest all one =
+    let same : text_of (q ∷ (ps ++ p ∷ [])) ++ rest ≡ text_of (q ∷ ps) ++ (p.bytes ++ rest) =
+    ap (λ v. v ++ rest) (text_more (q ∷ ps) p) ∙ append_assoc (text_of (q ∷ ps)) p.bytes rest in
+    (λ is title. all.0 is (subst (λ v. BeginsWithTitle v) same title), titles_more (stays_before before q.kind) ps p rest all.1 one)
+
 pub both_none : (a : LeftOut) → both a left_none ≡ both left_none a
 both_none a = λ i. record {
   labels = or_comm a.labels false i;
@@ -106,6 +127,9 @@ pub record SoFar (part rest : List ℕ) (from : Beginning) (place : Place) (befo
   pub begin : BeginLines true parts
   pub begun : place ≡ Begin → begun_after true parts ≡ true
   pub untitled : from.place ≡ Among → HasNoTitle parts
+  pub titles : (from.place ≡ Among → ⊥) → LeaveTitles (is_before_moves from.place) parts rest
+  pub before_moves : (from.place ≡ Among → ⊥) → is_before_moves place ≡ before_after (is_before_moves from.place) parts
+  pub apart : place ≡ Among → from.place ≡ Among
   pub whole : text_of parts ++ rest ≡ part
   pub bytes_are : before ++ line_of parts ≡ bytes
   pub places_are : places_before ++ places_of from.at parts ≡ places
@@ -113,7 +137,7 @@ pub record SoFar (part rest : List ℕ) (from : Beginning) (place : Place) (befo
 
 pub nothing_read : (text : List ℕ) (from : Beginning) (before places_before : List ℕ) (left : LeftOut) → left ≡ left_none →
     SoFar text text from from.place before before places_before places_before left
-unfolding text_of line_of places_of ArePieces StayRightly BeginLines begun_after HasNoTitle left_of_all
+unfolding text_of line_of places_of ArePieces StayRightly BeginLines begun_after before_after HasNoTitle LeaveTitles left_of_all
 nothing_read text from before places_before left none = record {
   parts = [];
   are_pieces = tt;
@@ -121,6 +145,9 @@ nothing_read text from before places_before left none = record {
   begin = tt;
   begun = λ is. refl;
   untitled = λ among. tt;
+  titles = λ other. tt;
+  before_moves = λ other. refl;
+  apart = λ among. among;
   whole = refl;
   bytes_are = append-nil before;
   places_are = append-nil places_before;
@@ -130,9 +157,10 @@ nothing_read text from before places_before left none = record {
 pub one_more : (part rest : List ℕ) (from : Beginning) (place next : Place) (before bytes places_before places : List ℕ) (left : LeftOut) (kind : Piece) (n at : ℕ) (w : List ℕ) →
     SoFar part rest from place before bytes places_before places left → IsFirst rest kind n → (from.place ≡ Among → is_title kind ≡ false) →
     (kind ≡ LineNumber → place ≡ Begin) → (next ≡ Begin → (begun : Bool) → (place ≡ Begin → begun ≡ true) → is_begun begun kind ≡ true) →
-    w ≡ written kind (take n rest) → at ≡ from.at + (length part - length rest) →
+    (is_before_moves place ≡ true → BeginsWithTitle rest → kind ≡ Label) → ((place ≡ Among → ⊥) → is_before_moves next ≡ stays_before (is_before_moves place) kind) →
+    (next ≡ Among → place ≡ Among) → w ≡ written kind (take n rest) → at ≡ from.at + (length part - length rest) →
     SoFar part (drop n rest) from next before (bytes ++ w) places_before (places ++ replicate (length w) at) (both left (left_of kind))
-one_more text rest from place next before bytes places_before places left kind n at w far first untitled number goes is here =
+one_more text rest from place next before bytes places_before places left kind n at w far first untitled number goes title stays apart is here =
     let p : Part = part kind (take n rest) in
     let ps : List Part = far.parts in
     let long : at ≡ from.at + length (text_of ps) = omega (arith, here, ap length far.whole, length-append (text_of ps) rest) in
@@ -144,6 +172,12 @@ one_more text rest from place next before bytes places_before places left kind n
       begin = lines_more true ps p far.begin (λ is. far.begun (number is));
       begun = λ is. begun_more true ps p ∙ goes is (begun_after true ps) far.begun;
       untitled = λ among. untitled_more ps p (far.untitled among) (untitled among);
+      titles = λ other. titles_more (is_before_moves from.place) ps p (drop n rest)
+          (subst (λ v. LeaveTitles (is_before_moves from.place) ps v) (sym (take-append-drop n rest)) (far.titles other))
+          (λ is begun. title (far.before_moves other ∙ is) (subst (λ v. BeginsWithTitle v) (take-append-drop n rest) begun));
+      before_moves = λ other. stays (λ among. other (far.apart among)) ∙ ap (λ b. stays_before b kind) (far.before_moves other)
+          ∙ sym (before_more (is_before_moves from.place) ps p);
+      apart = λ among. far.apart (apart among);
       whole = ap (λ v. v ++ drop n rest) (text_more ps p) ∙ append_assoc (text_of ps) (take n rest) (drop n rest)
           ∙ ap (λ v. text_of ps ++ v) (take-append-drop n rest) ∙ far.whole;
       bytes_are = ap (λ v. before ++ v) (line_more ps p) ∙ sym (append_assoc before (line_of ps) (written kind (take n rest)))
@@ -163,6 +197,7 @@ all_read text from place before bytes places_before places left far = record {
   stay = far.stay;
   begin = far.begin;
   untitled = far.untitled;
+  titles = far.titles;
   whole = sym (append-nil (text_of far.parts)) ∙ far.whole;
   bytes_are = far.bytes_are;
   places_are = far.places_are;
@@ -178,20 +213,27 @@ so_far_is text from place before places_before rest bytes places rest' bytes' pl
   begin = far.begin;
   begun = far.begun;
   untitled = far.untitled;
+  titles = λ other. subst (λ v. LeaveTitles (is_before_moves from.place) far.parts v) (sym r) (far.titles other);
+  before_moves = far.before_moves;
+  apart = far.apart;
   whole = ap (λ v. text_of far.parts ++ v) r ∙ far.whole;
   bytes_are = far.bytes_are ∙ sym l;
   places_are = far.places_are ∙ sym p;
   left_is = far.left_is ∙ sym g;
 }
 
+begin_apart : Begin ≡ Among → ⊥
+begin_apart same = false≢true (sym (ap is_before_moves same))
+
 -- a text that is written at the beginning of a line is read as that line
-pub whole_text : (text : List ℕ) (from : Beginning) (bytes places : List ℕ) (left : LeftOut) (out : ℕ) → from.at ≡ 0 → PutsPart text from [] bytes [] places left →
+pub whole_text : (text : List ℕ) (from : Beginning) (bytes places : List ℕ) (left : LeftOut) (out : ℕ) → from.at ≡ 0 → from.place ≡ Begin → PutsPart text from [] bytes [] places left →
     out ≡ bits_of left → IsPlain text bytes places out
-whole_text text from bytes places left out begins puts told = record {
+whole_text text from bytes places left out begins top puts told = record {
   parts = puts.parts;
   are_pieces = puts.are_pieces;
   stay = puts.stay;
   begin = puts.begin;
+  titles = subst (λ (place : Place). LeaveTitles (is_before_moves place) puts.parts []) top (puts.titles (λ among. begin_apart (sym top ∙ among)));
   whole = puts.whole;
   line_is = puts.bytes_are;
   places_are = ap (λ at. places_of at puts.parts) (sym begins) ∙ puts.places_are;

@@ -39,7 +39,7 @@ each_at (b ∷ bytes) zero lt all = (and_parts (is_within 97 122 b) (list_all (i
 each_at (b ∷ bytes) (suc k) lt all = each_at bytes k (omega (arith, lt)) (and_parts (is_within 97 122 b) (list_all (is_within 97 122) bytes) all).1
 
 -- words that have letters alone
-spelled_word : (words : List (List ℕ)) (word : List ℕ) → are_spelled words ≡ true → Contains words word →
+pub spelled_word : (words : List (List ℕ)) (word : List ℕ) → are_spelled words ≡ true → Contains words word →
     (1 < length word) × (list_all (is_within 97 122) word ≡ true)
 spelled_word [] word all is = absurd (among_none word is)
 spelled_word (w ∷ ws) word all is = by_place (λ later. spelled_word ws word parts.1 later) (among_one w ws word is)
@@ -55,7 +55,7 @@ spelled_word (w ∷ ws) word all is = by_place (λ later. spelled_word ws word p
     by_place more (inr later) = more later
 
 -- its bytes in a text are letters of ASCII
-spelled_at : (words : List (List ℕ)) (bytes : List ℕ) (k : ℕ) → are_spelled words ≡ true → Contains words (map small bytes) → k < length bytes →
+pub spelled_at : (words : List (List ℕ)) (bytes : List ℕ) (k : ℕ) → are_spelled words ≡ true → Contains words (map small bytes) → k < length bytes →
     is_plain_letter (get_or bytes k 0) ≡ true
 spelled_at words bytes k all is lt =
     plain_of_small (get_or bytes k 0) (subst (λ b. is_within 97 122 b ≡ true) (get_or-map small bytes k 0 0 lt)

@@ -1,10 +1,11 @@
 -- One more line of those that are taken of a text.
-use Rattle.std.proofs.Common.{◌≡◌, ℕ, ◌+◌, ◌-◌, ◌<◌, ◌≤◌, List, [], ◌∷◌, ◌++◌, length, take, drop, set, slice_range, sym, subst, ap, ◌∙◌, length-drop, arith}
+use Rattle.std.proofs.Common.{◌≡◌, ℕ, ◌+◌, ◌-◌, ◌<◌, ◌≤◌, ◌⊎◌, inl, inr, List, [], ◌∷◌, ◌++◌, length, take, drop, set, slice_range, sym, subst, ap, ◌∙◌, length-drop, arith}
+use Rattle.std.proofs.lemmas.Bool.{cases_lt}
 use Rattle.std.proofs.lemmas.List.{take_more_set, drop-set-add}
 use Rattle.niss_text.specs.declared.text_line.TextLine.{TextLine}
 use Rattle.niss_text.specs.Kept.{words_of_any_head}
-use Rattle.niss_text.specs.Lines.{IsLine, IsTold, IsUnbroken, IsEnd, HasNoneBetween, HasNoneBy, Takes, end_size}
-use Rattle.niss_text.proofs.LineLemmas.{unbroken_at, ended_at, line_ends}
+use Rattle.niss_text.specs.Lines.{AreNumbered, IsLine, IsTold, IsUnbroken, IsEnd, HasNoneBetween, HasNoneBy, Takes, end_size}
+use Rattle.niss_text.proofs.LineLemmas.{unbroken_at, ended_at, line_ends, numbered_first, numbered_same}
 use Rattle.niss_text.proofs.PassedLemmas.{none_between, between_on}
 unfoldable use Rattle.niss_text.specs.Lines.{TakesBy}
 
@@ -41,6 +42,17 @@ takes_next words text from first lines count now size whole line low room far is
     (subst (λ (n : ℕ). TakesBy words text from (slice_range lines first count ++ line ∷ []) n) (line_ends text now size whole line end all)
     (takes_more words text from (slice_range lines first count) now line size far is told end (unbroken_at text now size unbroken)
     (subst (λ (n : ℕ). IsEnd text n) (sym end) (ended_at text now size ends))))
+
+-- one more line of an attempt, of those from a place on
+pub numbered_on : (seen first : ℕ) (lines : List TextLine) (count all at : ℕ) (line : TextLine) → first ≤ count → count < length lines →
+    (at ≡ 0 → AreNumbered seen (slice_range lines first count) all) → (0 < at → AreNumbered seen (slice_range lines first count) (all + 1)) → line.attempt ≡ all →
+    AreNumbered seen (slice_range (set lines count line) first (count + 1)) (all + 1)
+numbered_on seen first lines count all at line low room begun more is =
+    subst (λ (ls : List TextLine). AreNumbered seen ls (all + 1)) (sym (slice_more lines first count line low room)) (by_place (cases_lt 0 at))
+  where
+    by_place : (0 < at) ⊎ (at ≤ 0) → AreNumbered seen (slice_range lines first count ++ line ∷ []) (all + 1)
+    by_place (inl later) = numbered_same seen (slice_range lines first count) (all + 1) line (more later) (ap (λ n. n + 1) is)
+    by_place (inr here) = numbered_first seen (slice_range lines first count) all line (begun (omega (arith, here))) is
 
 -- no lines, from a place of the text on
 pub takes_none : (text : List ℕ) (from : ℕ) (lines : List TextLine) (at to : ℕ) → HasNoneBetween text from to → Takes text from (slice_range lines at at) to

@@ -28,9 +28,27 @@ pub record HasOnlyWords (words : List (List ℕ)) (bytes : List ℕ) : Type 0 wh
   pub whole : concat parts ≡ bytes
   pub each : All (λ part. HasNoLetters part ⊎ Contains words (map small part)) parts
 
+-- the words before each of several scrambles
+abbrev pub words_before_scramble : List (List ℕ)
+words_before_scramble = codes "scramble" ∷ codes "attempt" ∷ codes "extra" ∷ []
+
+-- those of a head but in a list with extras: them, and the word before a total
+abbrev pub words_of_title : List (List ℕ)
+words_of_title = codes "scramble" ∷ codes "attempt" ∷ codes "extra" ∷ codes "of" ∷ []
+
+-- Bytes begin with a word before a scramble, and a colon of ASCII after it.
+pub record BeginsWithTitle (bytes : List ℕ) : Type 0 where
+  pub count : ℕ
+  pub word : Contains words_before_scramble (map small (take count bytes))
+  pub colon : slice_index bytes count ≡ 58
+
 -- the words of a head, and the letter before a number of an extra
 abbrev pub words_of_head : List (List ℕ)
 words_of_head = codes "scramble" ∷ codes "attempt" ∷ codes "extra" ∷ codes "of" ∷ codes "e" ∷ []
+
+-- what solvers call a scramble that is known
+abbrev pub words_of_name : List (List ℕ)
+words_of_name = codes "cube" ∷ codes "solve" ∷ []
 
 -- those of a head before a solution of a scramble that is known, too
 abbrev pub words_of_any_head : List (List ℕ)

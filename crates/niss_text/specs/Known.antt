@@ -4,7 +4,7 @@ use Rattle.std.specs.List.{All, list_any}
 use Rattle.niss_text.specs.Signs.{is_digit}
 use Rattle.niss_text.specs.Doubts.{is_letter}
 use Rattle.niss_text.specs.Kept.{HasOnlyWords, words_of_any_head}
-use Rattle.niss_text.specs.Lines.{Counts, HasNoneBetween, Takes}
+use Rattle.niss_text.specs.Lines.{AreNumbered, Counts, HasNoneBetween, Takes}
 use Rattle.niss_text.specs.declared.known.KnownPart.{KnownPart}
 use Rattle.niss_text.specs.declared.parts.Part.{Part}
 use Rattle.niss_text.specs.declared.text_line.TextLine.{TextLine}
@@ -133,13 +133,22 @@ pub record IsRead (text : List ℕ) (from count : ℕ) (part : Part) : Type 0 wh
   pub something : (part.has_head || part.has_moves) ≡ true → HasBody text from count part
   pub nothing : (part.has_head || part.has_moves) ≡ false → HasNoneBetween text from part.end
 
+-- The attempts of a part are numbered: the lines of its solution are of the first one, 0, and those of others follow in order,
+-- from 1 on.
+pub record AreInAttempts (lines : List TextLine) (first_line solution_end end_line : ℕ) : Type 0 where
+  pub solution : All (λ line. line.attempt ≡ 0) (slice_range lines first_line solution_end)
+  pub all : ℕ
+  pub others : AreNumbered 1 (slice_range lines solution_end end_line) all
+
 -- The parts of a text from one place to another, with the lines that are told of it: each goes from where it begins to some
--- end, its name stands there, if it has one, and its lines are taken of what stands there. No moves stand between parts.
+-- end, its name stands there, if it has one, and its lines are taken of what stands there, in attempts that are numbered. No
+-- moves stand between parts.
 unfoldable pub PartsTake : List ℕ → List TextLine → ℕ → List KnownPart → ℕ → Type 0
 PartsTake text lines from [] to = HasNoneBetween text from to
 PartsTake text lines from (part ∷ parts) to =
     (end : ℕ) × HasNoneBetween text from part.begin × ((part.name_end ≡ 0) ⊎ ((part.begin ≤ part.name_begin) × (part.name_end ≤ end)))
-    × Takes text part.begin (slice_range lines part.first_line part.end_line) end × PartsTake text lines end parts to
+    × Takes text part.begin (slice_range lines part.first_line part.end_line) end
+    × AreInAttempts lines part.first_line part.solution_end part.end_line × PartsTake text lines end parts to
 
 -- what is read of a part has the number of its name
 abbrev pub IsNumbered : List ℕ → Part → Type 0

@@ -1,9 +1,11 @@
 -- What a text is read as: pieces, one after another, of which each is written in its place or left out.
 use Rattle.std.specs.Prelude.{◌≡◌, ℕ, ◌+◌, ◌<◌, ◌≤◌, Bool, true, false, List, [], ◌∷◌, ◌++◌, length, replicate, take, drop, slice_index, ◌⊎◌}
 use Rattle.niss_text.specs.declared.piece.Piece.{Piece}
+use Rattle.niss_text.specs.declared.piece.Place.{Place}
+use Rattle.niss_text.specs.declared.piece.Place.TheVariants.{Begin, Numbered, Moves, Among}
 use Rattle.niss_text.specs.declared.piece.Piece.TheVariants.{Kept, Blank, LineEnd, Comma, Apostrophe, Unseen, Label, LineNumber, MoveCount, Comment}
 use Rattle.niss_text.specs.Signs.{AreWords, IsOneOf, is_blank, is_line_end, is_comma, is_apostrophe, is_unseen, is_colon, is_letter, ends_line, begins_number, begins_changed}
-use Rattle.niss_text.specs.Kept.{AreTurns, BeginNoMoves, HasOnlyWords, IsCount, IsTitleEnd, words_of_head}
+use Rattle.niss_text.specs.Kept.{AreTurns, BeginNoMoves, BeginsWithTitle, HasOnlyWords, IsCount, IsTitleEnd, words_of_title}
 
 -- A piece of a text, with its bytes.
 pub record Part : Type 0 where
@@ -28,9 +30,10 @@ pub record EndsWithColon (bytes : List ℕ) : Type 0 where
   pub end : IsTitleEnd title
   pub is : is_colon colon ≡ true
 
--- A label is words with a colon at their end, or has no letters but those of the words of a head.
+-- A label is words with a colon at their end, or has no letters but those of the words before a scramble, and of that before
+-- a total.
 abbrev pub IsLabel : List ℕ → Type 0
-IsLabel bytes = EndsWithColon bytes ⊎ HasOnlyWords words_of_head bytes
+IsLabel bytes = EndsWithColon bytes ⊎ HasOnlyWords words_of_title bytes
 
 -- What each kind of piece may be. A sign that is written otherwise or not is one of those that its kind has, and has
 -- no byte of moves. A label begins with a letter, as moves may, but it is words with a colon, or has only those of a
@@ -126,6 +129,31 @@ is_begun begun Comment = false
 unfoldable pub BeginLines : Bool → List Part → Type 0
 BeginLines begun [] = Unit {0}
 BeginLines begun (p ∷ ps) = (p.kind ≡ LineNumber → begun ≡ true) × BeginLines (is_begun begun p.kind) ps
+
+-- at the beginning of a line and after its number what stands before its moves may follow
+abbrev pub is_before_moves : Place → Bool
+is_before_moves Begin = true
+is_before_moves Numbered = true
+is_before_moves Moves = false
+is_before_moves Among = false
+
+-- After a piece one is before the moves of a line: it ended one, or is the number of this one, or only parts what stands there.
+abbrev pub stays_before : Bool → Piece → Bool
+stays_before before Kept = false
+stays_before before Blank = before
+stays_before before LineEnd = true
+stays_before before Comma = false
+stays_before before Apostrophe = false
+stays_before before Unseen = before
+stays_before before Label = false
+stays_before before LineNumber = true
+stays_before before MoveCount = false
+stays_before before Comment = false
+
+-- Before the moves of a line a word before a scramble, with a colon, is left out as a label.
+unfoldable pub LeaveTitles : Bool → List Part → List ℕ → Type 0
+LeaveTitles before [] rest = Unit {0}
+LeaveTitles before (p ∷ ps) rest = (before ≡ true → BeginsWithTitle (text_of (p ∷ ps) ++ rest) → p.kind ≡ Label) × LeaveTitles (stays_before before p.kind) ps rest
 
 -- a piece that stands before the moves of a line
 abbrev pub is_title : Piece → Bool

@@ -1,6 +1,6 @@
 -- A part of a text that is written after the beginning of a line.
 use Rattle.std.specs.Prelude.{◌≡◌, ℕ, true, Option, List, [], ◌++◌, length}
-use Rattle.niss_text.specs.Pieces.{Part, ArePieces, StayRightly, BeginLines, HasNoTitle, text_of, line_of, places_of}
+use Rattle.niss_text.specs.Pieces.{Part, ArePieces, StayRightly, BeginLines, HasNoTitle, LeaveTitles, is_before_moves, text_of, line_of, places_of}
 use Rattle.niss_text.specs.LeftOut.{both, left_of_all}
 use Rattle.niss_text.specs.Moves.{AreMoves, gap_after, place_after, bytes_of_moves, places_of_moves, left_of_moves, part_of}
 use Rattle.niss_text.specs.declared.left_out.LeftOut.{LeftOut}
@@ -10,13 +10,14 @@ use Rattle.niss_text.specs.declared.moves.MovesPart.{MovesPart}
 use Rattle.niss_text.specs.declared.text_line.TextLine.{TextLine}
 
 -- The part is these pieces. The line that is written of them follows the bytes and places before, and this is left out.
--- Among moves none is a title.
+-- Among moves none is a title; elsewhere each title with a colon is left out.
 pub record PutsPart (part : List ℕ) (from : Beginning) (before bytes places_before places : List ℕ) (left : LeftOut) : Type 0 where
   pub parts : List Part
   pub are_pieces : ArePieces parts
   pub stay : StayRightly parts []
   pub begin : BeginLines true parts
   pub untitled : from.place ≡ Among → HasNoTitle parts
+  pub titles : (from.place ≡ Among → ⊥) → LeaveTitles (is_before_moves from.place) parts []
   pub whole : text_of parts ≡ part
   pub bytes_are : before ++ line_of parts ≡ bytes
   pub places_are : places_before ++ places_of from.at parts ≡ places

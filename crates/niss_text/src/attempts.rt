@@ -1,5 +1,6 @@
 //! The attempts of a text as solvers write it: which of its lines are scrambles, steps and notes.
 ghost use Rattle.std.specs.Prelude.{◌≡◌, ◌≤◌, ◌<◌, ◌+◌, ◌⊎◌, ℕ, List, true, false, length, take, drop, set, slice_range, ◌&&◌, nat_le};
+ghost use Rattle.std.specs.List.{All};
 ghost use Rattle.niss_text.specs.Numbers.{number_of_kind};
 ghost use Rattle.niss_text.specs.Lines.{Covers, Counts, TakesBy, Remain, AreNumbered, Begins, BeginNumbered};
 ghost use Rattle.niss_text.specs.Said.{is_a_head};
@@ -209,6 +210,8 @@ fn put_attempt(
         Remain text.now all result.0 result.1 end }
     ensures numbers { AreNumbered 0 (take written lines.old) attempt.now.number → result.0 ≤ length lines.new →
         AreNumbered 0 (take result.0 lines.new) (attempt.now.number + 1) }
+    ensures numbers_on { (seen first : ℕ) → first ≤ written → AreNumbered seen (slice_range lines.old first written) attempt.now.number →
+        result.0 ≤ length lines.new → AreNumbered seen (slice_range lines.new first result.0) (attempt.now.number + 1) }
     ensures begins { (written ≤ length lines.old → Covers text.now 0 (take written lines.old) begin) →
         Begins text.now (take written lines.old) → Begins text.now (take result.0 lines.new) }
     ensures in_order { (written ≤ length lines.old → AreNumbered 0 (take written lines.old) attempt.now.number) →
@@ -272,6 +275,8 @@ pub fn put_attempts(text: &[u8], end: usize, so_far: Progress, lines: &mut [Text
     ensures all { (all : ℕ) → Remain text.now all so_far.lines so_far.at end → (result.at ≡ end) × (result.lines ≡ all) }
     ensures numbers { AreNumbered 0 (take so_far.lines lines.old) so_far.attempts → so_far.attempts ≤ so_far.at →
         result.lines ≤ length lines.new → AreNumbered 0 (take result.lines lines.new) result.attempts }
+    ensures numbers_on { (seen first : ℕ) → first ≤ so_far.lines → AreNumbered seen (slice_range lines.old first so_far.lines) so_far.attempts →
+        so_far.attempts ≤ so_far.at + 1 → result.lines ≤ length lines.new → AreNumbered seen (slice_range lines.new first result.lines) result.attempts }
     ensures begins { (so_far.lines ≤ length lines.old → Covers text.now 0 (take so_far.lines lines.old) so_far.at) →
         Begins text.now (take so_far.lines lines.old) → Begins text.now (take result.lines lines.new) }
     ensures in_order { (so_far.lines ≤ length lines.old → AreNumbered 0 (take so_far.lines lines.old) so_far.attempts) →
@@ -313,7 +318,7 @@ pub fn put_attempts(text: &[u8], end: usize, so_far: Progress, lines: &mut [Text
 }
 
 /// Writes the lines of a text from a place up to another one, or up to the next scramble, as those that follow a
-/// scramble.
+/// scramble: they are of the first attempt, which is counted also if there are none.
 pub fn put_solution(text: &[u8], end: usize, so_far: Progress, lines: &mut [TextLine]) -> Progress
     requires begin { so_far.at ≤ end }
     requires end { end ≤ length text.now }
@@ -324,6 +329,8 @@ pub fn put_solution(text: &[u8], end: usize, so_far: Progress, lines: &mut [Text
         TakesBy words text.now from (slice_range lines.old first so_far.lines) so_far.at → result.lines ≤ length lines.new →
         TakesBy words text.now from (slice_range lines.new first result.lines) result.at }
     ensures kept { take so_far.lines lines.new ≡ take so_far.lines lines.old }
+    ensures one { result.attempts ≡ 1 }
+    ensures first { result.lines ≤ length lines.new → All (λ line. line.attempt ≡ 0) (slice_range lines.new so_far.lines result.lines) }
     ensures behind { drop result.lines lines.new ≡ drop result.lines lines.old }
 {
     let length = length_behind_scramble(&text[so_far.at..end]);
@@ -345,7 +352,8 @@ pub fn put_solution(text: &[u8], end: usize, so_far: Progress, lines: &mut [Text
 
 /// An attempt without its scramble.
 fn solution_alone(text: &[u8]) -> Attempt
-    ensures { result.length ≡ length text.now }
+    ensures length { result.length ≡ length text.now }
+    ensures first { result.number ≡ 0 }
 {
     let numbers = Numbers::OfLines;
     let solutions = Solutions::seen_in(text, &[], numbers);

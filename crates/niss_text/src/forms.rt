@@ -2,6 +2,7 @@
 ghost use Rattle.std.specs.Prelude.{◌≡◌, ◌≤◌, ◌<◌, ◌+◌, ℕ, true, false, [], ◌∷◌, length, take, drop, slice_index, slice_range, IfSome};
 ghost use Rattle.niss_text.specs.Signs.{IsSign, HasNoMoves, AreSigns, is_digit, is_spacing, ends_line, opens};
 ghost use Rattle.niss_text.specs.Pieces.{EndsWithColon};
+ghost use Rattle.niss_text.specs.declared.sign.Kind.TheVariants.{Colon};
 ghost use Rattle.niss_text.specs.Doubts.{is_letter as is_plain_letter};
 ghost use Rattle.niss_text.specs.Said.{HasNoBracket, HasNoSlashes};
 ghost use Rattle.niss_text.specs.Kept.{AreTurns, IsTurnUpTo, HasNoLetters, HasOnlyWords, IsCount, IsTitleEnd, words_of_count};
@@ -19,6 +20,7 @@ use crate::words::{is_other_side, word_length};
 pub fn sign_length(text: &[u8], kind: Kind) -> usize
     ensures fits { result ≤ length text.now }
     ensures is { 0 < result → IsSign kind (take result text.now) }
+    ensures colon { kind ≡ Colon → slice_index text.now 0 ≡ 58 → 0 < result }
 {
     if text.is_empty() {
         return 0;
@@ -146,6 +148,7 @@ pub fn begins_comment(text: &[u8]) -> bool
 pub fn comment_at(line: &[u8]) -> usize
     ensures fits { result ≤ length line.now }
     ensures slash { result < length line.now → slice_index line.now result ≡ 47 }
+    ensures next_slash { result < length line.now → slice_index line.now (result + 1) ≡ 47 }
     ensures first { (k : ℕ) → slice_index line.now k ≡ 47 → slice_index line.now (k + 1) ≡ 47 → result ≤ k }
 {
     let mut rest = line;

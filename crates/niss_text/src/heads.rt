@@ -1,7 +1,7 @@
 //! What stands in front of a line before its label: its number, and what tells a scramble from others.
-ghost use Rattle.std.specs.Prelude.{◌≡◌, ◌≤◌, ◌<◌, ◌-◌, nat_lt, true, false, length, take, drop, map, slice_index};
+ghost use Rattle.std.specs.Prelude.{◌≡◌, ◌≤◌, ◌<◌, ◌-◌, nat_lt, ℕ, true, false, length, take, drop, map, slice_index};
 ghost use Rattle.std.specs.List.{Contains};
-ghost use Rattle.niss_text.specs.Kept.{BeginNoMoves, HasOnlyWords, small, words_of_any_head, words_of_head};
+ghost use Rattle.niss_text.specs.Kept.{BeginNoMoves, BeginsWithTitle, HasOnlyWords, small, words_before_scramble, words_of_any_head, words_of_head, words_of_name, words_of_title};
 ghost use Rattle.niss_text.specs.Doubts.{is_capital};
 ghost use Rattle.niss_text.specs.Said.{is_a_head};
 ghost use Rattle.niss_text.specs.declared.line.Head.TheVariants.{None as NoHead};
@@ -16,7 +16,8 @@ use crate::words::word_length;
 /// How many bytes the word has that stands before each of several scrambles, if a text begins with one; else 0.
 fn head_word_length(text: &[u8]) -> usize
     ensures fits { result ≤ length text.now }
-    ensures word { 0 < result → Contains words_of_head (map small (take result text.now)) }
+    ensures word { 0 < result → Contains words_before_scramble (map small (take result text.now)) }
+    ensures all { (count : ℕ) → count ≤ length text.now → Contains words_before_scramble (map small (take count text.now)) → result ≡ count }
 {
     if text.is_empty() {
         return 0;
@@ -32,7 +33,7 @@ fn head_word_length(text: &[u8]) -> usize
 /// How many bytes the name has that solvers give a scramble which is known, if a text begins with one; else 0.
 fn name_length(text: &[u8]) -> usize
     ensures fits { result ≤ length text.now }
-    ensures word { 0 < result → Contains words_of_any_head (map small (take result text.now)) }
+    ensures word { 0 < result → Contains words_of_name (map small (take result text.now)) }
 {
     let cube = word_length(text, b"cube");
     if cube > 0 {
@@ -136,7 +137,7 @@ fn listed_length(line: &[u8], numbers: Numbers) -> usize
 /// How many bytes a slash or "of" has in front of a text; else 0.
 fn of_length(text: &[u8]) -> usize
     ensures fits { result ≤ length text.now }
-    ensures words { HasOnlyWords words_of_head (take result text.now) }
+    ensures words { HasOnlyWords words_of_title (take result text.now) }
 {
     let slash = mark_length(text, b'/');
     if slash > 0 {
@@ -150,7 +151,7 @@ fn of_length(text: &[u8]) -> usize
 fn behind_total(line: &[u8]) -> &[u8]
     ensures fits { length result.now ≤ length line.now }
     ensures rest { result.now ≡ drop (length line.now - length result.now) line.now }
-    ensures words { HasOnlyWords words_of_head (take (length line.now - length result.now) line.now) }
+    ensures words { HasOnlyWords words_of_title (take (length line.now - length result.now) line.now) }
 {
     let word = trimmed(line);
     let of = of_length(word);
@@ -195,7 +196,7 @@ fn behind_end(line: &[u8]) -> &[u8]
 /// there.
 fn head_number_length(text: &[u8]) -> usize
     ensures fits { result ≤ length text.now }
-    ensures words { HasOnlyWords words_of_head (take result text.now) }
+    ensures words { HasOnlyWords words_of_title (take result text.now) }
 {
     let number = trimmed(text);
     let marked = from_place(number, mark_length(number, b'#'));
@@ -217,7 +218,8 @@ fn head_number_length(text: &[u8]) -> usize
 /// a colon; 0 if there is none.
 pub fn head_length(line: &[u8]) -> usize
     ensures fits { result ≤ length line.now }
-    ensures words { HasOnlyWords words_of_head (take result line.now) }
+    ensures words { HasOnlyWords words_of_title (take result line.now) }
+    ensures title { BeginsWithTitle line.now → 0 < result }
 {
     let word = head_word_length(line);
     if word == 0 {

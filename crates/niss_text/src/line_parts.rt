@@ -1,5 +1,5 @@
 //! Where the parts of a line are after its head: its label, its moves, and what is said after them.
-ghost use Rattle.std.specs.Prelude.{◌≡◌, ◌≤◌, ◌<◌, ℕ, true, false, length, drop, take, slice_index, slice_range};
+ghost use Rattle.std.specs.Prelude.{◌≡◌, ◌≤◌, ◌<◌, ◌+◌, ℕ, true, false, length, drop, take, slice_index, slice_range};
 ghost use Rattle.niss_text.specs.Kept.{ArePlain, ArePlainBefore, BeginNoMoves, IsTitleEnd, begins_with_turn};
 ghost use Rattle.niss_text.specs.Doubts.{is_letter as is_plain_letter};
 ghost use Rattle.niss_text.specs.Said.{HasNoSlashes, IsLabelled};
@@ -66,6 +66,8 @@ pub fn parts_of(line: &[u8], head: usize) -> Parts
     ensures title { IsTitleEnd (slice_range line.now result.label_end result.moves) }
     ensures comment { begins_with_turn (drop result.comment line.now) ≡ false }
     ensures uncommented { HasNoSlashes (slice_range line.now result.moves result.comment) }
+    ensures slashes { result.slashes < length line.now →
+        (slice_index line.now result.slashes ≡ 47) × (slice_index line.now (result.slashes + 1) ≡ 47) }
     ensures entitled { result.title_end < result.label_end → is_plain_letter (slice_index line.now result.title_end) ≡ false }
     ensures labelled { IsLabelled line.now (drop result.label_begin line.now) result.label_begin result.moves }
     ensures plain { (count : ℕ) → head ≡ 0 → ArePlainBefore line.now count →

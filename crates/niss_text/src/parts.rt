@@ -149,6 +149,7 @@ impl Part {
         ensures has { result.has_head ≡ (self.has_head || not (line.now.is_headed == 0)) }
         ensures moves { result.has_moves ≡ (self.has_moves || has_moves line.now) }
         ensures bare { result.has_body ≡ false → (line.now.kind ≡ 0) × ((line.now.is_headed ≡ 0 → ⊥) ⊎ (self.has_body ≡ false)) }
+        ensures filled { result.has_body ≡ (not (line.now.kind == 0) || ((line.now.is_headed == 0) && self.has_body)) }
         ensures under_head { (line.now.is_headed ≡ 0 → ⊥) → result.body ≡ line.now.head_end }
         ensures first { line.now.is_headed ≡ 0 → self.has_body ≡ false → result.has_body ≡ true → result.body ≡ line.now.begin }
         ensures later { line.now.is_headed ≡ 0 → (self.has_body ≡ true) ⊎ (result.has_body ≡ false) → result.body ≡ self.body }

@@ -1,9 +1,10 @@
 //! The pieces of a text, one after another: single bytes of moves, and what is read otherwise or left out.
-ghost use Rattle.std.specs.Prelude.{◌≡◌, ◌<◌, ◌≤◌, Bool, true, false, None, length, take, slice_index, IfSome};
-ghost use Rattle.niss_text.specs.Pieces.{IsFirst, IsLabel, is_begun, is_title};
+ghost use Rattle.std.specs.Prelude.{◌≡◌, ◌<◌, ◌≤◌, Bool, true, false, None, length, take, slice_index, IfSome, MatchOption};
+ghost use Rattle.niss_text.specs.Kept.{BeginsWithTitle};
+ghost use Rattle.niss_text.specs.Pieces.{IsFirst, IsLabel, is_before_moves, is_begun, is_title, stays_before};
 ghost use Rattle.niss_text.specs.declared.piece.Place.TheVariants.{Among, Begin};
-ghost use Rattle.niss_text.specs.declared.piece.Piece.TheVariants.{Comment, Kept, LineNumber};
-ghost use Rattle.niss_text.specs.Signs.{begins_number, begins_count};
+ghost use Rattle.niss_text.specs.declared.piece.Piece.TheVariants.{Comment, Kept, Label, LineNumber};
+ghost use Rattle.niss_text.specs.Signs.{begins_number, begins_count, is_of_letters};
 
 use crate::forms::{count_length, label_of, line_length};
 use crate::heads::{head_length, number_length};
@@ -44,7 +45,7 @@ pub enum Place {
 impl Place {
     /// Whether what stands before the moves of a line may follow.
     fn has_titles(self) -> bool
-        ensures { self ≡ Among → result ≡ false }
+        ensures { result ≡ is_before_moves self }
     {
         matches!(self, Place::Begin | Place::Numbered)
     }
@@ -52,6 +53,8 @@ impl Place {
     /// Where one is after a piece.
     pub fn after(self, piece: Piece) -> Place
         ensures among { self ≡ Among → result ≡ Among }
+        ensures apart { result ≡ Among → self ≡ Among }
+        ensures before { (self ≡ Among → ⊥) → is_before_moves result ≡ stays_before (is_before_moves self) piece }
         ensures begin { result ≡ Begin → (begun : Bool) → (self ≡ Begin → begun ≡ true) → is_begun begun piece ≡ true }
     {
         match piece {
@@ -68,6 +71,7 @@ impl Place {
 fn title_length(line: &[u8]) -> usize
     ensures fits { result ≤ length line.now }
     ensures is { 0 < result → IsLabel (take result line.now) }
+    ensures title { BeginsWithTitle line.now → 0 < result }
 {
     if let Some(label) = label_of(line) {
         return label.length;
@@ -120,6 +124,7 @@ fn first_of_line(text: &[u8], place: Place) -> Option<(Piece, usize)>
     requires { 0 < length text.now }
     ensures first { IfSome result (λ first. IsFirst text.now first.0 first.1) }
     ensures number { IfSome result (λ first. first.0 ≡ LineNumber → place ≡ Begin) }
+    ensures title { BeginsWithTitle text.now → MatchOption result ⊥ (λ first. first.0 ≡ Label) }
 {
     let line = &text[..line_length(text)];
     if place == Place::Begin && begins_number(text[0]) {
@@ -158,7 +163,9 @@ fn first_of_moves(text: &[u8]) -> (Piece, usize)
 }
 
 /// Whether a piece before the moves may begin at a sign.
-fn may_begin(kind: Kind) -> bool {
+fn may_begin(kind: Kind) -> bool
+    ensures { is_of_letters kind ≡ true → result ≡ true }
+{
     !matches!(kind, Kind::Blank | Kind::Unseen | Kind::LineEnd)
 }
 
@@ -166,8 +173,9 @@ fn may_begin(kind: Kind) -> bool {
 pub fn first_piece(text: &[u8], place: Place) -> (Piece, usize)
     requires { 0 < length text.now }
     ensures first { IsFirst text.now result.0 result.1 }
-    ensures untitled { place ≡ Among → is_title result.0 ≡ false }
+    ensures untitled { is_before_moves place ≡ false → is_title result.0 ≡ false }
     ensures number { result.0 ≡ LineNumber → place ≡ Begin }
+    ensures title { is_before_moves place ≡ true → BeginsWithTitle text.now → result.0 ≡ Label }
 {
     if place.has_titles() && may_begin(first_sign(text).kind) {
         if let Some(first) = first_of_line(text, place) {

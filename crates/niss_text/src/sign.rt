@@ -3,7 +3,7 @@ ghost use Rattle.std.specs.Prelude.{◌≡◌, ◌<◌, ◌≤◌, ◌-◌, ℕ,
 ghost use Rattle.niss_text.specs.Signs.{IsSign, HasNoMoves, is_digit, is_letter, is_of_letters, is_of_words, is_skipped, is_kept, is_changed, is_spacing, begins_changed, ends_word, AreSigns, AreWords};
 ghost use Rattle.niss_text.specs.Doubts.{is_capital, is_letter as is_plain_letter};
 ghost use Rattle.niss_text.specs.Kept.{HasTurns, IsTurnUpTo, is_turn};
-ghost use Rattle.niss_text.specs.declared.sign.Kind.TheVariants.{Capital};
+ghost use Rattle.niss_text.specs.declared.sign.Kind.TheVariants.{Capital, Colon};
 ghost use Rattle.niss_text.specs.declared.sign.Class.TheVariants.{Letters, NoBlanks, Skipped, Words};
 
 /// What a sign is. A byte that begins none of the longer ones is one by itself, also if it isn't UTF-8.
@@ -59,6 +59,7 @@ fn kind_of_byte(byte: u8) -> Kind
     ensures kept { is_kept result ≡ true → is_changed (byte ∷ []) ≡ false }
     ensures turn { is_turn byte ≡ true → ends_word result ≡ false }
     ensures capital { is_capital byte ≡ true → result ≡ Capital }
+    ensures colon { byte ≡ 58 → result ≡ Colon }
     ensures blank { byte ≡ 32 → (is_skipped result ≡ true) × (ends_word result ≡ true) }
     ensures letter { is_of_letters result ≡ true → is_letter byte ≡ true }
     ensures plain { is_plain_letter byte ≡ true → is_of_letters result ≡ true }
@@ -149,6 +150,7 @@ pub fn first_sign(text: &[u8]) -> Sign
     ensures kept { is_kept result.kind ≡ true → begins_changed text.now ≡ false }
     ensures turn { is_turn (slice_index text.now 0) ≡ true → (ends_word result.kind ≡ false) × (result.length ≡ 1) }
     ensures capital { is_capital (slice_index text.now 0) ≡ true → result.kind ≡ Capital }
+    ensures colon { slice_index text.now 0 ≡ 58 → result.kind ≡ Colon }
     ensures blank { slice_index text.now 0 ≡ 32 → (is_skipped result.kind ≡ true) × (ends_word result.kind ≡ true) }
     ensures letter { is_of_letters result.kind ≡ true → (result.length ≡ 1) × (is_letter (slice_index text.now 0) ≡ true) }
     ensures plain { is_plain_letter (slice_index text.now 0) ≡ true → is_of_letters result.kind ≡ true }
@@ -202,6 +204,7 @@ pub fn one_sign(text: &[u8]) -> Sign
     ensures kept { is_kept result.kind ≡ true → begins_changed text.now ≡ false }
     ensures turn { is_turn (slice_index text.now 0) ≡ true → (ends_word result.kind ≡ false) × (result.length ≡ 1) }
     ensures capital { is_capital (slice_index text.now 0) ≡ true → result.kind ≡ Capital }
+    ensures colon { slice_index text.now 0 ≡ 58 → result.kind ≡ Colon }
     ensures blank { slice_index text.now 0 ≡ 32 → (is_skipped result.kind ≡ true) × (ends_word result.kind ≡ true) }
     ensures letter { is_of_letters result.kind ≡ true → (result.length ≡ 1) × (is_letter (slice_index text.now 0) ≡ true) }
     ensures plain { is_plain_letter (slice_index text.now 0) ≡ true → is_of_letters result.kind ≡ true }
@@ -363,6 +366,7 @@ pub fn trimmed(text: &[u8]) -> &[u8]
     ensures skipped { HasNoMoves (take (length text.now - length result.now) text.now) }
     ensures spacing { AreSigns is_spacing (take (length text.now - length result.now) text.now) }
     ensures unblank { slice_index result.now 0 ≡ 32 → ⊥ }
+    ensures begun { 32 < slice_index text.now 0 → slice_index text.now 0 < 128 → result.now ≡ text.now }
 {
     // most texts begin with none
     if !text.is_empty() && text[0] > b' ' && text[0] < 0x80 {

@@ -9,7 +9,7 @@ use Rattle.niss_text.proofs.ToldLemmas.{StandsAt, IsSeen, HasKind, SaysOf, is_to
 use Rattle.niss_text.specs.Lines.{IsLine, IsTold, IsUnbroken, IsEnd, Covers, Counts, TakesBy, Remain, AreNumbered, Begins, BeginNumbered, end_size}
 use Rattle.niss_text.proofs.LineLemmas.{covers_next, counts_next, numbered_next, one_more, same_behind_line}
 use Rattle.niss_text.proofs.PassedLemmas.{remain_next}
-use Rattle.niss_text.proofs.TakesLemmas.{takes_next}
+use Rattle.niss_text.proofs.TakesLemmas.{takes_next, numbered_on}
 use Rattle.niss_text.proofs.GroupedLines.{KindAt, SoFar, IsLast, begun_so_far}
 use Rattle.niss_text.proofs.GroupLemmas.{group_grows, grows_little, last_is, so_far_memory, so_far_next}
 use Rattle.niss_text.proofs.attempts.put_attempt.Goals as goal
@@ -26,6 +26,8 @@ loop-at-init c = record {
   remain = search rules;
   first = search rules;
   numbers = search rules;
+  first_on = search rules;
+  numbers_on = search rules;
   begins = search rules;
   in_order = search rules;
   fresh = λ le. c.first-group.ensures;
@@ -135,6 +137,12 @@ loop-at-preserved c =
           (numbered_next lines count c.args.attempt.now.number c.loop-at.at told (omega (arith, room, same))
           (λ here. inv.first begun here (omega (arith, room, same))) (λ later. inv.numbers begun later (omega (arith, room, same)))
           (c.judged-told.ensures.attempt ∙ c.told_line-told.ensures.attempt ∙ c.role_of-role.ensures.attempt));
+      first_on = λ seen first low begun here. absurd (omega (arith, here, some));
+      numbers_on = λ seen first low begun further room.
+          subst (λ (ls : List TextLine). AreNumbered seen (slice_range ls first (count + 1)) (c.args.attempt.now.number + 1)) (sym e)
+          (numbered_on seen first lines count c.args.attempt.now.number c.loop-at.at told (omega (arith, low, inv.more)) (omega (arith, room, same))
+          (λ here. inv.first_on seen first low begun here (omega (arith, room, same))) (λ later. inv.numbers_on seen first low begun later (omega (arith, room, same)))
+          in_attempt);
       begins = λ begun first.
           subst (λ (ls : List TextLine). Begins text (take (count + 1) ls)) (sym e)
           (one_more (λ ls. Begins text ls) lines count told (inv.begins begun first) (λ lt. (

@@ -21,6 +21,10 @@ invariant-loop-at l = record {
       AreNumbered 0 (take l.count l.lines) l.attempt.number;
   numbers : AreNumbered 0 (take l.written l.initial.lines) l.attempt.number → 0 < l.at → l.count ≤ length l.lines →
       AreNumbered 0 (take l.count l.lines) (l.attempt.number + 1);
+  first_on : (seen first : ℕ) → first ≤ l.written → AreNumbered seen (slice_range l.initial.lines first l.written) l.attempt.number → l.at ≡ 0 →
+      l.count ≤ length l.lines → AreNumbered seen (slice_range l.lines first l.count) l.attempt.number;
+  numbers_on : (seen first : ℕ) → first ≤ l.written → AreNumbered seen (slice_range l.initial.lines first l.written) l.attempt.number → 0 < l.at →
+      l.count ≤ length l.lines → AreNumbered seen (slice_range l.lines first l.count) (l.attempt.number + 1);
   begins : (l.written ≤ length l.initial.lines → Covers l.text 0 (take l.written l.initial.lines) l.begin) → Begins l.text (take l.written l.initial.lines) →
       Begins l.text (take l.count l.lines);
   in_order : (l.written ≤ length l.initial.lines → AreNumbered 0 (take l.written l.initial.lines) l.attempt.number) →

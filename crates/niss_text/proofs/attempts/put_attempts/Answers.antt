@@ -1,4 +1,4 @@
-use Rattle.std.proofs.Common.{◌≡◌, ℕ, ◌+◌, length, take, sym, subst, ◌∙◌, arith}
+use Rattle.std.proofs.Common.{◌≡◌, ℕ, ◌+◌, length, take, slice_range, sym, subst, ◌∙◌, arith}
 use Rattle.niss_text.specs.Groups.{AreBelow}
 use Rattle.niss_text.specs.Lines.{AreNumbered}
 use Rattle.std.proofs.lemmas.Grind.{common_steps}
@@ -31,6 +31,15 @@ loop-at-preserved c =
           subst (λ (n : ℕ). AreNumbered 0 (take c.put_attempt-more.result.0 c.put_attempt-more.new.lines) n) one
           (told.numbers (subst (λ (n : ℕ). AreNumbered 0 (take c.loop-at.count c.loop-at.lines) n) (sym own)
           (inv.numbers begun low (omega (arith, room, same, told.more.0)))) room);
+      numbered_on = λ low. omega (arith, c.saturating_add-attempts.ensures, inv.numbered_on low, told.further.0);
+      numbers_on = λ seen first low begun few room.
+          let own : c.first_attempt-attempt.result.number ≡ c.loop-at.attempts = c.first_attempt-attempt.ensures.number in
+          let one : c.first_attempt-attempt.result.number + 1 ≡ c.saturating_add-attempts.result =
+          omega (arith, own, c.saturating_add-attempts.ensures, inv.numbered_on few, told.further.0, told.further.1) in
+          subst (λ (n : ℕ). AreNumbered seen (slice_range c.put_attempt-more.new.lines first c.put_attempt-more.result.0) n) one
+          (told.numbers_on seen first (omega (arith, low, inv.more))
+          (subst (λ (n : ℕ). AreNumbered seen (slice_range c.loop-at.lines first c.loop-at.count) n) (sym own)
+          (inv.numbers_on seen first low begun few (omega (arith, room, same, told.more.0)))) room);
       begins = λ begun first. told.begins
           (λ fits. inv.covers (begun (omega (arith, fits, inv.more, c.loop-at.auto.lines))) fits) (inv.begins begun first);
       in_order = λ begun low first.

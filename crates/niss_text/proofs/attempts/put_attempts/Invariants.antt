@@ -1,4 +1,4 @@
-use Rattle.std.proofs.Common.{◌≡◌, ℕ, ◌-◌, ◌≤◌, List, length, take, drop, slice_range}
+use Rattle.std.proofs.Common.{◌≡◌, ℕ, ◌+◌, ◌-◌, ◌≤◌, List, length, take, drop, slice_range}
 use Rattle.niss_text.specs.Lines.{Covers, Counts, TakesBy, Remain, AreNumbered, Begins, BeginNumbered}
 use Rattle.niss_text.specs.Groups.{AreGrouped, AreBelow}
 use Rattle.niss_text.proofs.attempts.put_attempts.Given as goal
@@ -19,6 +19,9 @@ invariant-loop-at l = record {
   numbered : l.fn.so_far.attempts ≤ l.fn.so_far.at → l.attempts ≤ l.at;
   numbers : AreNumbered 0 (take l.fn.so_far.lines l.initial.lines) l.fn.so_far.attempts → l.fn.so_far.attempts ≤ l.fn.so_far.at → l.count ≤ length l.lines →
       AreNumbered 0 (take l.count l.lines) l.attempts;
+  numbered_on : l.fn.so_far.attempts ≤ l.fn.so_far.at + 1 → l.attempts ≤ l.at + 1;
+  numbers_on : (seen first : ℕ) → first ≤ l.fn.so_far.lines → AreNumbered seen (slice_range l.initial.lines first l.fn.so_far.lines) l.fn.so_far.attempts →
+      l.fn.so_far.attempts ≤ l.fn.so_far.at + 1 → l.count ≤ length l.lines → AreNumbered seen (slice_range l.lines first l.count) l.attempts;
   begins : (l.fn.so_far.lines ≤ length l.initial.lines → Covers l.text 0 (take l.fn.so_far.lines l.initial.lines) l.fn.so_far.at) →
       Begins l.text (take l.fn.so_far.lines l.initial.lines) → Begins l.text (take l.count l.lines);
   in_order : (l.fn.so_far.lines ≤ length l.initial.lines → AreNumbered 0 (take l.fn.so_far.lines l.initial.lines) l.fn.so_far.attempts) →

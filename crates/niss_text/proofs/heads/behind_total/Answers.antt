@@ -1,5 +1,5 @@
 use Rattle.std.proofs.Common.{ℕ, List, ◌≡◌, ◌+◌, ◌-◌, length, take, ap, subst, length-drop, arith}
-use Rattle.niss_text.specs.Kept.{HasOnlyWords, words_of_head}
+use Rattle.niss_text.specs.Kept.{HasOnlyWords, words_of_title}
 use Rattle.niss_text.proofs.KeptLemmas.{only_moves, only_then, digits_only}
 use Rattle.niss_text.proofs.heads.behind_total.Goals as goal
 
@@ -14,7 +14,7 @@ returns-else-digits-eq0-clause-words c =
     let digits : ℕ = c.digits_length-digits.result in
     let first : ℕ = length line - length word in
     let second : ℕ = length after - length number in
-    let w : List (List ℕ) = words_of_head in
+    let w : List (List ℕ) = words_of_title in
     let counted : HasOnlyWords w (take (second + digits) after) =
     only_then w after number second digits (only_moves w (take second after) c.trimmed-number.ensures.skipped) c.trimmed-number.ensures.rest
     (digits_only w number digits c.digits_length-digits.ensures.fits c.digits_length-digits.ensures.digits) in

@@ -1,5 +1,5 @@
 use Rattle.std.proofs.Common.{ℕ, List, ◌≡◌, ◌+◌, ◌-◌, length, take, ap, subst, inl, refl, length-drop, arith}
-use Rattle.niss_text.specs.Kept.{HasOnlyWords, words_of_head}
+use Rattle.niss_text.specs.Kept.{HasOnlyWords, words_of_title}
 use Rattle.niss_text.proofs.KeptLemmas.{only_begin, only_moves, only_then, digits_only, mark_begins}
 use Rattle.niss_text.proofs.heads.head_number_length.Goals as goal
 
@@ -16,7 +16,7 @@ returns-then-is_parted-clause-words c =
     let blanks : ℕ = length text - length number in
     let of : ℕ = length rest - length total in
     let sign : ℕ = length total - length end in
-    let w : List (List ℕ) = words_of_head in
+    let w : List (List ℕ) = words_of_title in
     let ended : HasOnlyWords w (take (of + sign) rest) =
     only_then w rest total of sign c.behind_total-total.ensures.words c.behind_total-total.ensures.rest (only_begin w (take sign total) c.behind_end-end.ensures.begin) in
     let counted : HasOnlyWords w (take (digits + (of + sign)) marked) =

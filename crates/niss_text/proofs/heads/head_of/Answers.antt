@@ -1,6 +1,6 @@
 use Rattle.std.proofs.Common.{ℕ, List, ◌≡◌, ◌+◌, take, subst, arith}
 use Rattle.niss_text.specs.Kept.{HasOnlyWords, words_of_head}
-use Rattle.niss_text.proofs.KeptLemmas.{only_begin, only_moves, only_then}
+use Rattle.niss_text.proofs.KeptLemmas.{only_begin, only_moves, only_then, title_head}
 use Rattle.niss_text.proofs.heads.head_of.Goals as goal
 
 pub returns-then-word-gt0-clause-words : goal.returns-then-word-gt0-clause-words
@@ -15,7 +15,7 @@ returns-then-word-gt0-clause-words c =
     subst (λ n. HasOnlyWords w (take n line)) there
     (only_then w line numbered number (blank + word) (only_begin w (take number line) c.number_length-number.ensures.begin) c.from_place-numbered.ensures
     (only_then w numbered c.from_place.result.now blank word (only_moves w (take blank numbered) c.blanks-blank.ensures.empty) c.from_place.ensures
-    c.head_length-word.ensures.words))
+    (title_head (take word c.from_place.result.now) c.head_length-word.ensures.words)))
 
 pub returns-then-number-gt0-clause-words : goal.returns-then-number-gt0-clause-words
 returns-then-number-gt0-clause-words c =

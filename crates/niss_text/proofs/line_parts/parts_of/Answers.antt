@@ -71,6 +71,18 @@ returns-clause-uncommented c =
     (body + c.span_of-span.result.end) c.from_place.ensures c.comment_at.ensures.first (omega arith)
     (omega (arith, first, second, c.span_of-span.ensures.fits, part_long line body slashes))
 
+pub returns-clause-slashes : goal.returns-clause-slashes
+returns-clause-slashes c = λ lt.
+    let line : List ℕ = c.args.line.now in
+    let head : ℕ = c.args.head in
+    let at : ℕ = c.comment_at.result in
+    let is : c.from_place.result.now ≡ drop head line = c.from_place.ensures in
+    let within : at < length c.from_place.result.now = omega (arith, lt, ap length is, length-drop head line) in
+    let next : head + (at + 1) ≡ head + at + 1 = omega arith in (
+      sym (get_or-drop head line at 0) ∙ ap (λ v. get_or v at 0) (sym is) ∙ c.comment_at.ensures.slash within,
+      ap (λ n. get_or line n 0) (sym next) ∙ sym (get_or-drop head line (at + 1) 0) ∙ ap (λ v. get_or v (at + 1) 0) (sym is) ∙ c.comment_at.ensures.next_slash within,
+    )
+
 pub returns-clause-entitled : goal.returns-clause-entitled
 returns-clause-entitled c = λ lt.
     let line : List ℕ = c.args.line.now in

@@ -9,7 +9,7 @@ use Rattle.niss_text.proofs.HeadsOfLines.{all_next}
 use Rattle.niss_text.proofs.PartLemmas.{body_low}
 use Rattle.niss_text.proofs.PassedLemmas.{between_on}
 use Rattle.niss_text.proofs.TakesLemmas.{takes_behind, takes_first, takes_none}
-use Rattle.niss_text.proofs.TellLemmas.{parts_kept, parts_next}
+use Rattle.niss_text.proofs.TellLemmas.{are_in_attempts, parts_kept, parts_next}
 use Rattle.niss_text.proofs.known.Reading.with.Goals as goal
 
 pub returns-then-self-clause-behind : goal.returns-then-self-clause-behind
@@ -105,7 +105,11 @@ returns-then-self-clause-told c = λ most body have far parts_room room.
     subst (λ (ps : List KnownPart). PartsTake text c.put_attempts-read.new.lines 0 (take (count + 1) ps) c.put_attempts-read.result.at) (sym c.put_part.ensures)
     (parts_next text c.put_attempts-read.new.lines 0 c.args.parts.now count c.args.self.read.at _ c.put_attempts-read.result.at (omega (arith, parts_room, c.put_part.auto.parts))
     (parts_kept text c.args.lines.now c.put_attempts-read.new.lines 0 (take count c.args.parts.now) c.args.self.read.at 0 n have kept far) body.before
-    (subst (λ (m : ℕ). (part.name_end ≡ 0) ⊎ ((part.begin ≤ part.name_begin) × (part.name_end ≤ m))) (sym there) body.named) takes)
+    (subst (λ (m : ℕ). (part.name_end ≡ 0) ⊎ ((part.begin ≤ part.name_begin) × (part.name_end ≤ m))) (sym there) body.named) takes
+    (are_in_attempts c.put_solution-solution.new.lines c.put_attempts-read.new.lines n c.put_solution-solution.result.lines c.put_attempts-read.result.lines
+    c.put_solution-solution.result.attempts c.put_solution-solution.result.at c.put_attempts-read.result.attempts solution.more read.more read.kept
+    (solution.first (omega (arith, room, read.more, c.put_attempts-read.auto.lines))) solution.one
+    (λ begun few. read.numbers_on 1 c.put_solution-solution.result.lines (omega arith) begun few room)))
 
 pub returns-else-self-clause-takes : goal.returns-else-self-clause-takes
 returns-else-self-clause-takes c = λ most body far room.
@@ -160,4 +164,8 @@ returns-else-self-clause-told c = λ most body have far parts_room room.
     subst (λ (ps : List KnownPart). PartsTake text c.put_attempts-read.new.lines 0 (take (count + 1) ps) c.put_attempts-read.result.at) (sym c.put_part.ensures)
     (parts_next text c.put_attempts-read.new.lines 0 c.args.parts.now count c.args.self.read.at _ c.put_attempts-read.result.at (omega (arith, parts_room, c.put_part.auto.parts))
     (parts_kept text c.args.lines.now c.put_attempts-read.new.lines 0 (take count c.args.parts.now) c.args.self.read.at 0 n have kept far) body.before
-    (subst (λ (m : ℕ). (part.name_end ≡ 0) ⊎ ((part.begin ≤ part.name_begin) × (part.name_end ≤ m))) (sym there) body.named) takes)
+    (subst (λ (m : ℕ). (part.name_end ≡ 0) ⊎ ((part.begin ≤ part.name_begin) × (part.name_end ≤ m))) (sym there) body.named) takes
+    (are_in_attempts c.put_solution-solution.new.lines c.put_attempts-read.new.lines n c.put_solution-solution.result.lines c.put_attempts-read.result.lines
+    c.put_solution-solution.result.attempts c.put_solution-solution.result.at c.put_attempts-read.result.attempts solution.more read.more read.kept
+    (solution.first (omega (arith, room, read.more, c.put_attempts-read.auto.lines))) solution.one
+    (λ begun few. read.numbers_on 1 c.put_solution-solution.result.lines (omega arith) begun few room)))

@@ -1,7 +1,7 @@
 use Rattle.std.proofs.Common.{◌≡◌, ◌+◌, ◌-◌, ◌≤◌, ◌++◌, ℕ, List, length, take, drop, replicate, refl, sym, ap, ◌∙◌, arith, rules}
 use Rattle.std.proofs.lemmas.List.{length-take-le, length-drop, get_or-take}
 use Rattle.niss_text.specs.declared.piece.Piece.{Piece}
-use Rattle.niss_text.specs.Pieces.{IsFirst, written}
+use Rattle.niss_text.specs.Pieces.{IsFirst, written, is_before_moves}
 use Rattle.niss_text.specs.LeftOut.{left_of, both}
 use Rattle.niss_text.proofs.PlainLemmas.{nothing_read, one_more, so_far_is, same_behind}
 use Rattle.niss_text.proofs.pen.Pen.put_part.Goals as goal
@@ -39,8 +39,9 @@ loop-rest-preserved c =
     let long : length w ≡ count = length-take-le count c.written-count.result.0 (omega arith) in
     let at : ℕ = c.args.from.at + (length part - length rest) in
     let one = one_more part rest c.args.from c.loop-rest.place c.after-place.result (take begun c.args.out.now) (take far out) (take begun c.args.places.now) (take far places) c.loop-rest.gone
-    kind n at w inv.read first (λ among. c.first_piece-piece.ensures.untitled (inv.among among))
-    c.first_piece-piece.ensures.number c.after-place.ensures.begin is refl in
+    kind n at w inv.read first (λ among. c.first_piece-piece.ensures.untitled (ap is_before_moves (inv.among among)))
+    c.first_piece-piece.ensures.number c.after-place.ensures.begin c.first_piece-piece.ensures.title c.after-place.ensures.before c.after-place.ensures.apart
+    is refl in
     let left : length c.behind_piece-rest.result.now ≡ length rest - n = ap length c.behind_piece-rest.ensures ∙ length-drop n rest in
     let room : count ≤ c.min-room.result - far = c.if-room-pen.false in
     record {
