@@ -11,6 +11,7 @@ use crate::doubts::{Sheet, judged};
 use crate::groups::{Group, Solutions, is_same, is_that};
 use crate::line::{Head, Line, Numbers, cut_line, head_in_front};
 use crate::outline::{is_head, length_behind_scramble, outline_of};
+use crate::progress::Progress;
 use crate::sign::from_place;
 use crate::status::Status;
 use crate::stretches::{listed_numbers, numbers_of, stretch_length};
@@ -235,28 +236,6 @@ fn put_attempt(
         at += whole;
     }
     (count, begin + at)
-}
-
-/// How far a text is read: where the next line begins, how many lines are written, and how many attempts these are.
-#[derive(Clone, Copy)]
-pub struct Progress {
-    pub at: usize,
-    pub lines: usize,
-    pub attempts: usize,
-    ghost few: { lines ≤ at },
-}
-
-impl Progress {
-    /// Before the first line.
-    pub fn nothing() -> Progress
-        ensures { (result.at ≡ 0) × ((result.lines ≡ 0) × (result.attempts ≡ 0)) }
-    {
-        Progress {
-            at: 0,
-            lines: 0,
-            attempts: 0,
-        }
-    }
 }
 
 /// Writes the lines of the attempts of a text from a place up to another one, as long as there is room.

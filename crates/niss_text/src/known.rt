@@ -5,8 +5,9 @@ ghost use Rattle.niss_text.specs.Kept.{words_of_any_head};
 ghost use Rattle.niss_text.specs.Known.{AreKnown, AreApart, AreAssigned, AreCounted, AreNamedAs, AreOf, AreSaid, IsCountedAlone, IsName, IsNumbered, HasBody, HaveLines, HaveNames, PartsTake, have_numbers, scramble_with};
 ghost use Rattle.niss_text.specs.Lines.{Counts, CoversBy, Takes, TellsPlain};
 
-use crate::attempts::{Progress, put_attempts, put_solution};
+use crate::attempts::{put_attempts, put_solution};
 use crate::parts::{Part, first_part, has_head};
+use crate::progress::Progress;
 use crate::status::Status;
 use crate::text_line::TextLine;
 use crate::worded_heads::put_heads;

@@ -20,6 +20,7 @@ mod parts;
 mod pen;
 mod piece;
 mod plain;
+mod progress;
 mod said;
 mod scramble_lines;
 mod short_word;

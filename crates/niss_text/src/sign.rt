@@ -358,7 +358,7 @@ fn passed(text: &[u8], class: Class) -> &[u8]
     rest
 }
 
-/// What is after blanks and what isn't seen in front of a text.
+/// What is after blanks and what isn't seen in front of a text. Most begin with none.
 #[inline(never)]
 pub fn trimmed(text: &[u8]) -> &[u8]
     ensures fits { length result.now ≤ length text.now }
@@ -368,7 +368,6 @@ pub fn trimmed(text: &[u8]) -> &[u8]
     ensures unblank { slice_index result.now 0 ≡ 32 → ⊥ }
     ensures begun { 32 < slice_index text.now 0 → slice_index text.now 0 < 128 → result.now ≡ text.now }
 {
-    // most texts begin with none
     if !text.is_empty() && text[0] > b' ' && text[0] < 0x80 {
         return text;
     }
