@@ -142,6 +142,7 @@ def comes_back(tally: Tally, browser: Browser) -> None:
     browser.go(FLIPPED)
     browser.walk(tally, "a step", ("submit", "own", "R R'", {}), ("comes", "steps", 1, {}))
     browser.click('[data-cell="eofb.normal"]')
+    browser.until(f"{FOCUS} return document.activeElement.id === arguments[0]", "slack")
     browser.script(SLACK + "part('solutions-close').focus()", "slack", "3")
     back(browser)
     tally.equal("Back from a list that is looked for", browser.focused(), "steps-heading")
