@@ -1,10 +1,10 @@
 -- What bytes after others do to the corners; and lines that don't solve since opposite corners don't come to opposite places.
-use Rattle.std.proofs.Common.{◌≡◌, ◌∙◌, ℕ, zero, suc, ◌+◌, ◌-◌, ◌<◌, ◌≤◌, ◌==◌, ◌↔◌, Bool, true, false, not, ◌&&◌, ◌||◌, List, [], ◌∷◌, ◌++◌, length, map, take, drop, get_or, refl, sym, ap, subst, arith, append-nil, Result, Ok, Err, inl, inr, ◌⊎◌, cond, add-zero, length-append}
+use Rattle.std.proofs.Common.{◌≡◌, ◌∙◌, ℕ, zero, suc, ◌+◌, ◌-◌, ◌<◌, ◌≤◌, ◌==◌, ◌↔◌, Bool, true, false, not, ◌&&◌, ◌||◌, List, [], ◌∷◌, ◌++◌, length, map, get_or, refl, sym, ap, subst, arith, append-nil, Result, Ok, Err, inl, inr, ◌⊎◌, cond, add-zero, length-append}
 use Rattle.std.specs.Prelude.{flat_map, slice_index, slice_range, IsTrue}
-use Rattle.std.proofs.Math.Seq.{take-add, get_or-append_seam}
+use Rattle.std.proofs.Math.Seq.{get_or-append_seam}
 use Rattle.std.proofs.lemmas.Bool.{and_right, cases_lt}
 use Rattle.std.proofs.lemmas.Bool.Decides.{eqb_tells}
-use Rattle.std.proofs.lemmas.List.{map-append, drop-drop, get_or_append_left}
+use Rattle.std.proofs.lemmas.List.{map-append, get_or_append_left}
 use Rattle.std.proofs.lemmas.List.Folds.{list_any-append}
 use Rattle.std.proofs.lemmas.Grind.{flat_map-append}
 use Rattle.niss_moves.specs.Effects.{inverse}
@@ -15,6 +15,7 @@ use Rattle.niss_moves.specs.Solving.{IsRotated, is_rotated, solves}
 use Rattle.niss_moves.specs.declared.token.Token.{Token}
 use Rattle.niss_moves.specs.declared.fault.ReadFault.{ReadFault}
 use Rattle.niss_moves.proofs.CallerLemmas.{inverse-append}
+use Rattle.niss_text.proofs.CallerLemmas.{parts_joined}
 use Rattle.niss_attempts.specs.declared.steps.reading.Reading.{Reading}
 use Rattle.niss_attempts.specs.declared.steps.reading.Reading.TheVariants.{AsWritten, WithoutBrackets, InCapitals}
 use Rattle.niss_attempts.specs.declared.steps.corners.StepCorners.{StepCorners}
@@ -251,17 +252,10 @@ step_reads reading bytes c m is_read is brings undoes inverts plain lives = inl 
 })
 
 -- Steps from one to a second and from there to a third are those from the one to the third.
-joined_ranges : (text : List ℕ) (a b c : ℕ) → a ≤ b → b ≤ c → slice_range text a b ++ slice_range text b c ≡ slice_range text a c
-joined_ranges text a b c ab bc =
-    let first : a + (b - a) ≡ b = omega (arith, ab) in
-    let all : (b - a) + (c - b) ≡ c - a = omega (arith, ab, bc) in
-    ap (λ rest. take (b - a) (drop a text) ++ take (c - b) rest) (ap (λ n. drop n text) (sym first) ∙ sym (drop-drop (b - a) a text))
-    ∙ sym (take-add (b - a) (c - b) (drop a text)) ∙ ap (λ n. take n (drop a text)) all
-
 pub joined_steps : (text : List ℕ) (a b c : ℕ) → a ≤ b → b ≤ c →
     map (read_byte AsWritten) (slice_range text a b) ++ map (read_byte AsWritten) (slice_range text b c) ≡ map (read_byte AsWritten) (slice_range text a c)
 joined_steps text a b c ab bc =
-    sym (map-append (read_byte AsWritten) (slice_range text a b) (slice_range text b c)) ∙ ap (map (read_byte AsWritten)) (joined_ranges text a b c ab bc)
+    sym (map-append (read_byte AsWritten) (slice_range text a b) (slice_range text b c)) ∙ ap (map (read_byte AsWritten)) (parts_joined text a b c ab bc)
 
 -- places that ascend, by how far the first of them is from another
 pub ascends_to : (bounds : List ℕ) (a n : ℕ) → Ascends bounds → a + n < length bounds → slice_index bounds a ≤ slice_index bounds (a + n)
