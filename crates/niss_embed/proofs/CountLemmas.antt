@@ -2,11 +2,9 @@
 use Rattle.std.proofs.Common.{◌≡◌, inl, inr, ℕ, suc, ◌+◌, ◌<◌, ◌≤◌, min, true, false, None, Ok, Err, List, [], ◌∷◌}
 use Rattle.std.proofs.Common.{take, length, refl, sym, ap, ◌∙◌, subst, arith}
 use Rattle.std.specs.Prelude.{is_err, OnOk, IfErr}
-
 use Rattle.std.proofs.lemmas.List.{length-take-le}
 use Rattle.niss_moves.specs.Places.{Place}
 use Rattle.niss_search.specs.Budgets.{is_cut_in, HasSpent}
-
 use Rattle.niss_search.specs.LookNumbers.{found_within_of, look_number_of}
 use Rattle.niss_search.specs.Delivery.{WentThrough, StoppedAt, StoppedIn, WentInto, EndedIn}
 use Rattle.niss_search.specs.Laws.{FirstIsLeast}
