@@ -67,7 +67,7 @@ void forms_are_found() {
 void attempts_are_read() {
     static constexpr std::string_view TEXT = "Hello\n1. R\xe2\x80\x99 U\nF // EO\n\n// short\nB q\nL\n\n2) D\n";
     const std::vector<nissy::attempt> attempts = nissy::read_attempts(TEXT);
-    const auto &[name, scramble, steps, solution, candidates, before, doubt] = attempts.at(0);
+    const auto &[name, scramble, steps, solution, candidates, before, doubt, is_labelled] = attempts.at(0);
     const auto is = [](const nissy::plain &part, const char *line, const std::vector<std::size_t> &places, const names &left_out) {
         holds(part.line == line && part.places == places && part.left_out == left_out, "a part of an attempt", line);
     };
@@ -80,6 +80,7 @@ void attempts_are_read() {
     is(attempts.at(1).scramble, "D", {44}, {});
     holds(attempts.size() == 2 && attempts[1].name == "2)" && attempts[1].steps.empty() && attempts[1].before == 0, "the other one", "2)");
     holds(!attempts[1].solution && !doubt && !attempts[1].doubt, "it has no solution, and nothing is in doubt", "2)");
+    holds(!is_labelled && nissy::read_attempts("R U\n\nSolution: U' R'").at(0).is_labelled, "a label calls a solution so, or none does", "Solution:");
     try {
         nissy::check(scramble.line, candidates[0].steps[0].line);
         holds(0, "it has a fault", "B q");
