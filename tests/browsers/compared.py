@@ -197,24 +197,21 @@ def says_where_they_part(tally: Tally, browser: Browser) -> None:
         "#scramble=L2_U2_R-_F-&kept=normal.F,normal.F~normal.R.inverse.U,normal.F~normal.R_U2_L2,inverse.L2_U2_R-_F-"
     )
     browser.until(KEPT_SAID)
-    first, both, solved, other = "F", "F R (U)", "F R U2 L2", "(L2 U2 R' F')"
+    first, both, solved, other = ("F", ""), ("F R", "U"), ("F R U2 L2", ""), ("", "L2 U2 R' F'")
     for lines, said in (
         ((first, both), "They part at step 2, after F. Fewest up to a DR: 1 move in all, with F."),
         ((both, solved), "They part at step 2, after F."),
         ((solved, other), "They part at the first step. All take as many: 4 moves in all."),
     ):
-        for pressed in ("true", "false"):
-            for line in lines:
-                press = f"{COMPARE}.find((each) => each.dataset.control === 'compare ' + arguments[0]).click()"
-                browser.script(press, line)
-            if pressed == "true":
-                browser.walk(
-                    tally,
-                    f"{lines}",
-                    ("click", "#kept-compare", {}),
-                    ("until", "return document.querySelector('#comparison').open", {"comparison-said": said}),
-                    ("press", Keys.ESCAPE, {}),
-                )
+        chooses(browser, *lines)
+        browser.walk(
+            tally,
+            f"{lines}",
+            ("click", "#kept-compare", {}),
+            ("until", "return document.querySelector('#comparison').open", {"comparison-said": said}),
+            ("press", Keys.ESCAPE, {}),
+        )
+        chooses(browser, *lines)
 
 
 def says_nothing_of_no_steps(tally: Tally, browser: Browser) -> None:

@@ -1,4 +1,6 @@
 """How the marks on a net are seen: by the colours of what is drawn, from the ground beside a sticker to the colour within its mark."""
+import re
+
 from browser import Browser
 from looks import SCRAMBLE
 from tally import Tally
@@ -27,6 +29,11 @@ def light(colour: list[int]) -> float:
         part / 255 / 12.92 if part <= 0.04045 * 255 else ((part / 255 + 0.055) / 1.055) ** 2.4 for part in colour
     )
     return 0.2126 * red + 0.7152 * green + 0.0722 * blue
+
+
+def channels(colour: str) -> list[int]:
+    """The parts of a colour as a browser writes it."""
+    return [int(part) for part in re.findall(r"\d+", colour)]
 
 
 def contrast(one: list[int], other: list[int]) -> float:

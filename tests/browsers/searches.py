@@ -4,6 +4,7 @@ import time
 
 from best import CHOOSE, LONGER, SCRAMBLE, TYPE, address_of
 from browser import Browser
+from marks import channels
 from program import program_answers
 from tally import Tally
 from wanted import SIDES, Position, is_earlier
@@ -63,7 +64,7 @@ def marked(tally: Tally, browser: Browser) -> None:
         return [own.fill, getComputedStyle(it.querySelector('.mark')).visibility]; })"""
     (_, mark), (grey, none) = browser.script(looks)
     tally.equal("a bad one has a ring and a dot, another neither", (mark, none), ("visible", "hidden"))
-    parts = [int(part) for part in re.findall(r"\d+", grey)]
+    parts = channels(grey)
     tally.holds(f"the rest is grey: {parts}", max(parts) - min(parts) < 20)
     named = re.search(
         "EO F/B: 4 bad, ([A-Z ]+);", browser.script("return document.querySelector('#net-normal svg').ariaLabel")

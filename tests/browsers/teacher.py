@@ -4,7 +4,7 @@ import re
 
 from browser import Browser, Keys
 from looks import KEPT, SCRAMBLE, is_legible
-from marks import contrast
+from marks import channels, contrast
 from sighted import MARKED, marked
 from steps import EXAMPLE
 from tally import Tally
@@ -36,11 +36,6 @@ MADE = "#shown-line [aria-current=true]"
 LABELS = "return all('#choices :is(.take, .star)').map((each) => each.ariaLabel)"
 # a turn as it is said; the axes of a case, such as F/B, are none
 TURN = r"\b[UDRLFB](?:2|\b(?!/))(?<!/.)"
-
-
-def channels(colour: str) -> list[int]:
-    """The parts of a colour as a browser writes it."""
-    return [int(part) for part in re.findall(r"\d+", colour)]
 
 
 def tells_why(tally: Tally, browser: Browser) -> None:

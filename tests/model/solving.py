@@ -4,7 +4,6 @@ A step is reached where sets of sticker places are kept. The images of such a se
 found; a position is such numbers, and its distance is found level by level from the goal.
 """
 import fcntl
-import os
 from collections.abc import Callable, Iterator, Sequence
 from functools import lru_cache
 from hashlib import sha256
@@ -173,15 +172,17 @@ class Domino:
 
     def cached(self, name: str) -> bytes:
         """The distances, which are worked out once for all tests of a checkout: what needs them meanwhile waits."""
-        kept, part = folder_of_distances() / name, folder_of_distances() / f"{name}.part"
-        with open(part, "ab") as file:
+        size = 2187 * SLICES
+        with open(folder_of_distances() / name, "a+b") as file:
             fcntl.flock(file, fcntl.LOCK_EX)
-            if not kept.exists():
+            file.seek(0)
+            distance = file.read()
+            # there are fewer if a process ended while it wrote them
+            if len(distance) < size:
+                distance = levels(size, self.tables, self.deepest)
                 file.truncate(0)
-                file.write(levels(2187 * SLICES, self.tables, self.deepest))
-                file.flush()
-                os.link(part, kept)
-        return kept.read_bytes()
+                file.write(distance)
+        return distance
 
     def position(self, effect: Effect) -> int:
         """The number of a cube's position."""

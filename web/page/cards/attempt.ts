@@ -3,7 +3,7 @@
 import { lastOf } from "../shared/certain.js";
 import { announceLater, counted, part } from "../shared/element.js";
 import { furthestOf, statesOf } from "../shared/offered-steps.js";
-import { areBeside, withoutMoving } from "../shared/view.js";
+import { areBeside, leadTo, withoutMoving } from "../shared/view.js";
 import type { Walk } from "../answers/examine.js";
 import type { ReadAttempt } from "../answers/read-lines.js";
 
@@ -29,8 +29,7 @@ export class AttemptAnswer {
 
   constructor() {
     part("attempt-way").addEventListener("click", () => {
-      part(`${this.#card}-heading`).focus({ preventScroll: true });
-      part(this.#card).scrollIntoView({ block: areBeside() ? "nearest" : "start", behavior: "instant" });
+      leadTo(part(this.#card), part(`${this.#card}-heading`), areBeside() ? "nearest" : "start");
     });
   }
 

@@ -55,6 +55,12 @@ export function withoutMoving(still: HTMLElement, change: () => void) {
   scrollBy({ top: still.getBoundingClientRect().top - top, behavior: "instant" });
 }
 
+/** Has a card come into view, whose heading has the focus then. */
+export function leadTo(card: HTMLElement, heading: HTMLElement, block: ScrollLogicalPosition = "start") {
+  heading.focus({ preventScroll: true });
+  card.scrollIntoView({ block, behavior: "instant" });
+}
+
 /** Makes what rests on a readable scramble usable or not. */
 export function setUsable(usable: boolean) {
   for (const name of ["line", "results", "kept", "cube"]) part(name).inert = !usable;

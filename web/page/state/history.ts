@@ -4,6 +4,7 @@ import { addressOf, fitsAddress, type List, type State } from "./address.js";
 import { fieldsOf } from "../shared/certain.js";
 import { part, tell } from "../shared/element.js";
 import { bracketed, type Part } from "../shared/offered-steps.js";
+import { leadTo } from "../shared/view.js";
 import { NOT_IN_ADDRESS } from "../shared/words.js";
 
 export type Place = { key: string; scroll: number };
@@ -101,8 +102,7 @@ export class WayTo {
       const scroll = this.#scroll;
       this.#setScroll(scroll === null ? scrollY : null);
       if (scroll !== null) return scrollTo({ top: scroll, behavior: "instant" });
-      heading.focus({ preventScroll: true });
-      card.scrollIntoView({ block: "start", behavior: "instant" });
+      leadTo(card, heading);
     });
     new IntersectionObserver(([{ isIntersecting }]) => isIntersecting || this.#setScroll(null)).observe(card);
   }
