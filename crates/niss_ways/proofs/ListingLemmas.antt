@@ -181,6 +181,7 @@ put_lists a m x one reached place came h =
         each = λ k d p less. put_each a m x came one passed all place h.stand k d p (either a.rows k (omega (arith, less, one.count)));
       };
       counted = omega (arith, one.came, h.counted, long);
+      few = λ off. omega (arith, one.stays.passed, one.stays.same_length, all, passed, place, long);
     }
 
 pub put_one : (a m b : Rows) (x : Pair) → PutOne a x m → b ≡ record m { came = min (m.came + 1) (2 ^ 64 - 1) } → a.passed ≤ a.came
@@ -199,9 +200,9 @@ put_one a m b x one is reached place =
     })
 
 -- it has no place, and is counted
-counted_lists : (a : Rows) (x : Pair) → a.passed ≤ a.came → length a.room.now ≤ a.rows → (came : List Pair) → HasListed a came
+counted_lists : (a : Rows) (x : Pair) → a.counts ≡ true → a.passed ≤ a.came → length a.room.now ≤ a.rows → (came : List Pair) → HasListed a came
     → HasListed (record a { came = min (a.came + 1) (2 ^ 64 - 1) }) (came ++ x ∷ [])
-counted_lists a x reached full came h =
+counted_lists a x on reached full came h =
     let long : length (came ++ x ∷ []) ≡ length came + 1 = length-append came (x ∷ []) in
     record {
       stand = record {
@@ -211,14 +212,15 @@ counted_lists a x reached full came h =
             (sym (get_or_append_left came (x ∷ []) p (a.passed + k) (omega (arith, less, h.stand.count)))) (h.stand.each k d p less);
       };
       counted = omega (arith, h.counted, long);
+      few = λ off. absurd (false≢true (sym off ∙ on));
     }
 
-pub counted_one : (a b : Rows) (x : Pair) → b ≡ record a { came = min (a.came + 1) (2 ^ 64 - 1) } → a.passed ≤ a.came
+pub counted_one : (a b : Rows) (x : Pair) → b ≡ record a { came = min (a.came + 1) (2 ^ 64 - 1) } → a.counts ≡ true → a.passed ≤ a.came
     → length a.room.now ≤ a.rows → ListedOne a x b
-counted_one a b x is reached full =
+counted_one a b x is on reached full =
     subst (λ (r : Rows). ListedOne a x r) (sym is) (record {
       stays = record { names = refl; step = refl; passed = refl; counts = refl; room = refl; same_length = refl };
-      lists = counted_lists a x reached full;
+      lists = counted_lists a x on reached full;
     })
 
 -- what stands is said of the same list, step and places
@@ -252,6 +254,7 @@ module _ (a b : Rows) (step : Step) (e : Place → Place) (listed : Listed) (fou
             (h.stays.step ∙ is_step) (h.stays.passed ∙ is_passed) (sym rows) has.stand;
         same_length = h.stays.same_length;
         counted = solutions ∙ has.counted;
+        few = λ off. omega (arith, has.few (h.stays.counts ∙ is_counts ∙ off), h.stays.passed, is_passed, h.stays.same_length);
         full = λ more. rows ∙ (full more).0 ∙ h.stays.same_length;
         is_more = λ more. (full more).2;
         uncounted = λ more. sym is_counts ∙ sym h.stays.counts ∙ (full more).1;

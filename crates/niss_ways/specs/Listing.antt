@@ -32,6 +32,8 @@ pub record ListsInto (names : List Face) (step : Step) (e : Place → Place) (li
   pub stand : Stands names step listed.passed came room found.rows
   pub same_length : length room ≡ places
   pub counted : found.solutions ≡ min (length came) (2 ^ 64 - 1)
+  -- of those that have no place none is counted, unless all are to be
+  pub few : listed.counts ≡ false → length came ≤ listed.passed + places
   pub full : found.more ≡ true → found.rows ≡ places
   -- another one had no place
   pub is_more : found.more ≡ true → 0 < length rest
@@ -68,6 +70,7 @@ pub record EndsListing (ended : Result ℕ (Stopped Full)) (rows came looks : �
 pub record HasListed (rows : Rows) (came : List Pair) : Type 0 where
   pub stand : Stands rows.names.now rows.step rows.passed came rows.room.now rows.rows
   pub counted : rows.came ≡ min (length came) (2 ^ 64 - 1)
+  pub few : rows.counts ≡ false → length came ≤ rows.passed + length rows.room.now
 
 -- It lends the same room, of the same length, for the same list.
 pub record StaysListing (old new : Rows) : Type 0 where

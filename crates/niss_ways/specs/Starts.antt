@@ -1,11 +1,14 @@
 -- Where one stands after a scramble and the moves so far.
-use Rattle.std.specs.Prelude.{◌≡◌, ◌⊎◌, ◌<◌, ◌≤◌, List, ◌++◌, length, map, reverse}
+use Rattle.std.specs.Prelude.{◌≡◌, ◌⊎◌, ◌<◌, ◌≤◌, List, ◌++◌, get_or, length, map, reverse}
 use Rattle.niss_moves.specs.Cleaning.{clean_turns}
-use Rattle.niss_moves.specs.Effects.{inverse, inverse_turn}
+use Rattle.niss_moves.specs.Effects.{effect, inverse, inverse_turn}
+use Rattle.niss_moves.specs.Facelets.{centre}
+use Rattle.niss_moves.specs.Indices.{face_index}
 use Rattle.niss_moves.specs.Line.{Moves, joined_moves}
 use Rattle.niss_moves.specs.Rotations.{IsRotationOf, face_before, faces, renamed_turn}
 use Rattle.niss_moves.specs.declared.rotation.Rotation.{Rotation}
 use Rattle.niss_moves.specs.declared.token.Token.{Token}
+use Rattle.niss_moves.specs.declared.turn.Face.{Face}
 use Rattle.niss_moves.specs.declared.turn.Turn.{Turn}
 use Rattle.niss_ways.specs.Truth.{Origin}
 
@@ -27,6 +30,10 @@ pub record Leads (scramble so_far : Moves) (line on_normal on_inverse : List Tur
   pub inverse : on_inverse ≡ reverse (map inverse_turn before)
   pub line_is : line ≡ before ++ faces (joined_moves scramble) ++ on_normal
 
+-- Each face is called as the one at whose place its centre is after moves.
+abbrev pub AreNames : List Token → List Face → Type 0
+AreNames s names = (f : Face) → effect s (centre f) ≡ centre (get_or names (face_index f) f)
+
 -- The moves so far are more than 200 face turns on a side, or the line has more than 512.
 abbrev pub AreTooMany : (scramble so_far : Moves) → Type 0
 AreTooMany scramble so_far =
@@ -39,3 +46,4 @@ pub record IsAfter (scramble so_far : Moves) (o : Origin) : Type 0 where
   pub few_normal : length (faces so_far.normal) ≤ 200
   pub few_inverse : length (faces (inverse so_far.bracketed)) ≤ 200
   pub few_in_all : length o.line ≤ 512
+  pub named : AreNames (joined_moves scramble ++ so_far.normal) o.names

@@ -5,6 +5,7 @@ use Rattle.niss_moves.specs.Places.{SameMap}
 use Rattle.niss_moves.specs.declared.turn.Face.{Face}
 use Rattle.niss_moves.specs.declared.turn.Turn.{Turn}
 use Rattle.niss_moves.specs.declared.turn.Axis.{Axis}
+use Rattle.niss_cube.specs.BadPieces.{TakesBack}
 use Rattle.niss_cube.specs.BadPlaces.{bad_count}
 use Rattle.niss_cube.specs.Map.{map_of}
 use Rattle.niss_cube.specs.Steps.{edge_step_on, goals_of, reached}
@@ -13,6 +14,7 @@ use Rattle.niss_cube.specs.declared.cube.coordinate.Coordinate.TheVariants.{Twis
 use Rattle.niss_cube.specs.declared.step.Goal.TheVariants.{Domino}
 use Rattle.niss_cube.specs.declared.step.Step.{Step}
 use Rattle.niss_search.specs.BothSides.{Pair, pair}
+use Rattle.niss_search.specs.Cubes.{distance_of}
 use Rattle.niss_ways.specs.Shown.{Tells, no_part}
 use Rattle.niss_ways.specs.Ways.{cube_after, first_reaches}
 use Rattle.niss_ways.specs.declared.way.Way.{Way}
@@ -31,8 +33,15 @@ abbrev pub total_after : Origin → (first then : Pair) → ℕ
 total_after o p q =
     length (clean_turns (o.normal ++ p.normal ++ q.normal)) + length (clean_turns (o.inverse ++ p.inverse ++ q.inverse))
 
+-- How far a step is from a cube, on it alone and on the inverse alone: 0 to 20 turns, or 21 for more or never.
+pub record AreLengths (step : Step) (cube : Cube) (on_normal on_inverse : ℕ) : Type 0 where
+  pub normal : on_normal ≡ distance_of step (map_of cube)
+  pub back : Cube
+  pub takes_back : TakesBack cube back
+  pub inverse : on_inverse ≡ distance_of step (map_of back)
+
 -- A reduction is told that is one from a cube after first moves, and its case is that of the cube: its bad corners, and
--- its edges on the wrong side of the slice.
+-- its edges on the wrong side of the slice; and how far the reduction is on each side.
 pub record IsReduction (o : Origin) (edges : Axis) (first : Pair) (cube : Cube) (way : Way) : Type 0 where
   pub step : Step
   pub axis : Axis
@@ -43,6 +52,7 @@ pub record IsReduction (o : Origin) (edges : Axis) (first : Pair) (cube : Cube) 
   pub total : way.total ≡ total_after o first turns
   pub corners : way.corners ≡ bad_count Twist axis (map_of cube)
   pub edges_outside : way.edges ≡ bad_count Slice axis (map_of cube)
+  pub lengths : AreLengths step cube way.on_normal way.on_inverse
 
 -- An orientation is told that is one from where one stands, and a reduction from the cube after it.
 pub record IsInTwoSteps (o : Origin) (way : Way) : Type 0 where
@@ -59,7 +69,9 @@ pub record IsInOneStep (o : Origin) (way : Way) : Type 0 where
   pub axis : Axis
   pub holds : IsTrue (reached (edge_step_on axis) (map_of o.cube))
   pub none : way.eo ≡ no_part
-  pub reduction : IsReduction o axis (pair [] []) o.cube way
+  pub from : Cube
+  pub same : SameMap (map_of from) (map_of o.cube)
+  pub reduction : IsReduction o axis (pair [] []) from way
 
 abbrev pub IsWay : Origin → Way → Type 0
 IsWay o way = IsInTwoSteps o way ⊎ IsInOneStep o way

@@ -1,22 +1,25 @@
 //! Which lengths of a step's solutions are let in.
 ghost use Rattle.std.specs.Prelude.{◌≡◌, ◌≤◌, IfOk};
 
-use crate::looks::{Cut, Looks, NO_LENGTH};
+use crate::looks::{Cut, Looks};
+use crate::measured::Measured;
 use crate::nearest::{Enough, Nearest};
 use crate::solution::Solution;
 use crate::start::Start;
 use niss_search::{Ends, Limit, PairsWanted, Sides, Stopped, Tables};
 use std::alloc::Allocator;
 
+/// More turns than a solution has.
+const NO_LENGTH: u8 = 21;
+
 /// The least lengths of a step's solutions, on the scramble alone, on its inverse alone and over both, or 21; and by
 /// how many turns those are longer at most that are let in.
-#[derive(Clone, Copy, Debug)]
+#[derive(Clone, Copy)]
 pub struct Admitted {
-    pub normal: u8,
-    pub inverse: u8,
+    pub from: Measured,
     both: u8,
     slack: u8,
-    ghost small: { (normal ≤ 21) × (inverse ≤ 21) × (both ≤ 21) × (slack ≤ 20) },
+    ghost small: { (both ≤ 21) × (slack ≤ 20) },
 }
 
 /// The least length over both sides, which is at most the least on one.
@@ -52,34 +55,25 @@ fn least_on_both<A: Allocator>(
 }
 
 impl Admitted {
-    /// No length is let in.
-    pub const NONE: Admitted = Admitted {
-        normal: NO_LENGTH,
-        inverse: NO_LENGTH,
-        both: NO_LENGTH,
-        slack: 0,
-    };
-
-    /// Those of a step from where one stands.
+    /// Those of a step from where one stands, or none if it may not start there.
     pub fn find<A: Allocator>(
         tables: &Tables<A>,
         start: &Start,
         slack: Limit,
         looks: &mut Looks,
-    ) -> Result<Admitted, Cut>
+    ) -> Result<Option<Admitted>, Cut>
         ensures { looks.new.most ≡ looks.old.most }
     {
-        let slack = slack.get();
         let cube = start.cube();
-        let normal = looks.distance(tables, cube)?;
-        let inverse = looks.distance(tables, &cube.inverse())?;
-        let both = least_on_both(tables, start, normal.min(inverse), looks)?;
-        Ok(Admitted {
-            normal,
-            inverse,
+        let Some(from) = Measured::of(tables, cube, &cube.inverse(), looks)? else {
+            return Ok(None);
+        };
+        let both = least_on_both(tables, start, from.on_one(), looks)?;
+        Ok(Some(Admitted {
+            from,
             both,
-            slack,
-        })
+            slack: slack.get(),
+        }))
     }
 
     /// The greatest length that is let in by a least one.
@@ -107,8 +101,8 @@ impl Admitted {
         let both = self.lets(self.both, length);
         match sides {
             Sides::Both => both,
-            Sides::Normal => !both && self.lets(self.normal, length),
-            Sides::Inverse => !both && self.lets(self.inverse, length),
+            Sides::Normal => !both && self.lets(self.from.on_normal, length),
+            Sides::Inverse => !both && self.lets(self.from.on_inverse, length),
         }
     }
 
@@ -116,7 +110,15 @@ impl Admitted {
     pub fn longest(&self) -> u8
         ensures { result ≤ 21 }
     {
-        let alone = self.last(self.normal).max(self.last(self.inverse));
+        let from = &self.from;
+        let alone = self.last(from.on_normal).max(self.last(from.on_inverse));
         alone.max(self.last(self.both))
     }
+}
+
+/// The greatest length that is let in, 0 if none is.
+pub fn longest_of(admitted: Option<Admitted>) -> u8
+    ensures { result ≤ 21 }
+{
+    admitted.map_or(0, |lengths| lengths.longest())
 }

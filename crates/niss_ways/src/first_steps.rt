@@ -40,9 +40,9 @@ enum Task {
 struct FirstSteps<'a, A: Allocator> {
     tables: &'a WayTables<'a, A>,
     start: &'a Start,
-    /// The first step, by its tables, and which lengths of it are let in.
+    /// The first step, by its tables, and which lengths of it are let in, if any are.
     step: &'a Tables<A>,
-    admitted: Admitted,
+    admitted: Option<Admitted>,
     task: Task,
     /// The axis of the orientations.
     axis: Axis,
@@ -74,7 +74,7 @@ impl<'a, A: Allocator> FirstSteps<'a, A> {
             tables,
             start,
             step,
-            admitted: Admitted::NONE,
+            admitted: None,
             task: Task::Nothing,
             axis: Axis::Fb,
             totals: Totals::new(),
@@ -112,7 +112,10 @@ impl<'a, A: Allocator> FirstSteps<'a, A> {
         ensures most { outer.new.most ≡ outer.old.most }
         ensures room { Keeps self.old self.new }
     {
-        if !self.admitted.asks(sides, length) {
+        let Some(admitted) = &self.admitted else {
+            return Ok(());
+        };
+        if !admitted.asks(sides, length) {
             return Ok(());
         }
         let Some(length) = Limit::new(length) else {

@@ -1,19 +1,20 @@
 //! The reductions after orientations.
-ghost use Rattle.std.specs.Prelude.{◌≡◌, ◌≤◌, [], ◌∷◌, IfSome, IfOk, OnOk, IsTrue};
+ghost use Rattle.std.specs.Prelude.{◌≡◌, ◌≤◌, [], ◌∷◌, IfSome, IfOk, OnOk};
 ghost use Rattle.niss_cube.specs.BadPlaces.{bad_count};
 ghost use Rattle.niss_cube.specs.Map.{map_of};
 ghost use Rattle.niss_cube.specs.declared.cube.coordinate.Coordinate.TheVariants.{Twist, Slice};
-ghost use Rattle.niss_cube.specs.Steps.{goals_of, edge_step_on, may_start};
+ghost use Rattle.niss_cube.specs.Steps.{goals_of, edge_step_on};
 ghost use Rattle.niss_cube.specs.declared.step.Goal.TheVariants.{Domino};
 ghost use Rattle.niss_ways.specs.Truth.{IsWay, IsReduction};
 
 use crate::looks::{Cut, Looks};
+use crate::made::Made;
+use crate::measured::Measured;
 use crate::nearest::{Nearest, total_after};
 use crate::oriented::Oriented;
 use crate::solution::Solution;
 use crate::start::Start;
 use crate::way::{Part, Way, rank_by};
-use niss_cube::laws::inverse_has_steps;
 use niss_cube::{Axis, Coordinate, Cube, Step};
 use niss_search::{Limit, PairsWanted, Sides, Stopped, Tables};
 use std::alloc::Allocator;
@@ -75,14 +76,13 @@ pub fn edge_step_on(axis: Axis) -> Step
     }
 }
 
-/// An orientation, a reduction after it, and the moves in all.
+/// An orientation, a reduction after it, the cube between them, and the moves in all.
 #[derive(Drop)]
 pub struct Found {
     pub total: u16,
     orientation: Solution,
     reduction: Solution,
-    on_normal: u8,
-    on_inverse: u8,
+    from: Measured,
 }
 
 /// A reduction that is looked for after orientations.
@@ -94,16 +94,14 @@ pub struct Following<'a, A: Allocator> {
     ghost of_step: { goals_of tables.now ≡ Domino axes.edges axes.domino ∷ [] },
 }
 
-/// A cube after an orientation, on which a reduction may start, and the least lengths of that on the cube alone and on
-/// its inverse alone.
+/// A cube after an orientation, on which a reduction may start, and what is made with the orientation.
 #[derive(Drop)]
 struct Between<'a, A: Allocator> {
     tables: &'a Tables<A>,
-    after: &'a Oriented,
-    on_normal: u8,
-    on_inverse: u8,
-    ghost starts: { IsTrue (may_start tables.now (map_of after.now.cube)) },
-    ghost small: { (on_normal ≤ 21) × (on_inverse ≤ 21) },
+    made: Made,
+    from: Measured,
+    ghost of_step: { from.step ≡ tables.now },
+    ghost small: { (made.count ≤ 1024) × (made.saving ≤ 2056) },
 }
 
 impl<'a, A: Allocator> Between<'a, A> {
@@ -115,33 +113,19 @@ impl<'a, A: Allocator> Between<'a, A> {
     ) -> Result<Option<Between<'a, A>>, Cut>
         ensures { looks.new.most ≡ looks.old.most }
     {
-        if !tables.step().may_start(&after.cube) {
+        let Some(from) = Measured::of(tables, &after.cube, &after.inverse, looks)? else {
             return Ok(None);
-        }
-        inverse_has_steps();
-        let on_normal = looks.distance_from(tables, &after.cube)?;
-        let on_inverse = looks.distance_from(tables, &after.inverse)?;
-        Ok(Some(Between {
-            tables,
-            after,
-            on_normal,
-            on_inverse,
-        }))
-    }
-
-    /// The least length on one side.
-    fn on_one(&self) -> u8
-        ensures { result ≤ 21 }
-    {
-        self.on_normal.min(self.on_inverse)
+        };
+        let made = after.made;
+        Ok(Some(Between { tables, made, from }))
     }
 
     /// Searches for reductions on each side alone, and then over both.
     fn search_all(&self, nearest: &mut Nearest, looks: &mut Looks) -> Result<(), Cut>
         ensures { looks.new.most ≡ looks.old.most }
     {
-        self.search(Sides::Normal, self.on_normal, nearest, looks)?;
-        self.search(Sides::Inverse, self.on_inverse, nearest, looks)?;
+        self.search(Sides::Normal, self.from.on_normal, nearest, looks)?;
+        self.search(Sides::Inverse, self.from.on_inverse, nearest, looks)?;
         self.search_both(nearest, looks)
     }
 
@@ -155,7 +139,7 @@ impl<'a, A: Allocator> Between<'a, A> {
     ) -> Result<(), Cut>
         ensures { looks.new.most ≡ looks.old.most }
     {
-        let made = self.after.made;
+        let made = self.made;
         if made.count + u16::from(length) >= nearest.below.saturating_add(made.saving) {
             return Ok(());
         }
@@ -167,7 +151,7 @@ impl<'a, A: Allocator> Between<'a, A> {
             ends: nearest.ends(),
             length,
         };
-        match looks.search_from(self.tables, &self.after.cube, wanted, nearest) {
+        match looks.search_from(self.tables, &self.from.cube, wanted, nearest) {
             Err(Stopped::Cut) => Err(Cut),
             _ => Ok(()),
         }
@@ -178,7 +162,7 @@ impl<'a, A: Allocator> Between<'a, A> {
     fn search_both(&self, nearest: &mut Nearest, looks: &mut Looks) -> Result<(), Cut>
         ensures { looks.new.most ≡ looks.old.most }
     {
-        let on_one = self.on_one();
+        let on_one = self.from.on_one();
         let end = if nearest.is_plain { on_one } else { on_one + 1 };
         nearest.is_seen = false;
         for length in 1..end {
@@ -225,7 +209,7 @@ impl<'a, A: Allocator> Following<'a, A> {
         ensures { looks.new.most ≡ looks.old.most }
     {
         match Between::of(self.tables, after, looks)? {
-            Some(between) => Ok(after.made.count + u16::from(between.on_one())),
+            Some(between) => Ok(after.made.count + u16::from(between.from.on_one())),
             None => Ok(u16::MAX),
         }
     }
@@ -259,8 +243,7 @@ impl<'a, A: Allocator> Following<'a, A> {
             total,
             orientation: Solution::of(after.solution.normal(), after.solution.inverse()),
             reduction,
-            on_normal: between.on_normal,
-            on_inverse: between.on_inverse,
+            from: between.from,
         }))
     }
 
@@ -269,66 +252,53 @@ impl<'a, A: Allocator> Following<'a, A> {
     pub fn row(&self, found: &Found) -> Option<Way>
         ensures { IfSome result (λ way. IsWay self.now.start.now way) }
     {
-        let (orientation, reduction) = (&found.orientation, &found.reduction);
+        let (orientation, cube) = (&found.orientation, self.start.cube());
         let step = edge_step_on(self.axes.edges);
-        if !orientation.first_reaches(step, self.start.cube()) {
+        let between = orientation.cube_after(cube);
+        let is_measured = found.from.is_of(self.tables.step(), &between);
+        if !is_measured || !orientation.first_reaches(step, cube) {
             return None;
         }
-        let cube = orientation.cube_after(self.start.cube());
         let eo = Part::of(self.start.names(), step, orientation);
-        let way = self.reduced(eo, orientation, &cube, reduction)?;
-        Some(Way {
-            on_normal: found.on_normal,
-            on_inverse: found.on_inverse,
-            ..way
-        })
+        self.reduced(eo, orientation, &found.from, &found.reduction)
     }
 
     /// The row of a reduction if the orientation holds already.
-    pub fn row_of_reduction(
-        &self,
-        reduction: &Solution,
-        on_normal: u8,
-        on_inverse: u8,
-    ) -> Option<Way>
+    pub fn row_of_reduction(&self, reduction: &Solution, from: &Measured) -> Option<Way>
         ensures { IfSome result (λ way. IsWay self.now.start.now way) }
     {
         let cube = self.start.cube();
-        if !edge_step_on(self.axes.edges).reached(cube) {
+        if !edge_step_on(self.axes.edges).reached(cube) || !from.is_of(self.tables.step(), cube) {
             return None;
         }
         let nothing = Solution::of(&[], &[]);
-        let way = self.reduced(Part::none(), &nothing, cube, reduction)?;
-        Some(Way {
-            on_normal,
-            on_inverse,
-            ..way
-        })
+        self.reduced(Part::none(), &nothing, from, reduction)
     }
 
-    /// The row of a reduction from a cube after first moves.
-    pub fn reduced(
+    /// The row of a reduction after first moves, from the cube after these.
+    fn reduced(
         &self,
         eo: Part,
         first: &Solution,
-        cube: &Cube,
+        from: &Measured,
         reduction: &Solution,
     ) -> Option<Way>
+        requires { from.now.step ≡ self.now.tables.now }
         ensures eo { IfSome result (λ way. way.eo ≡ eo) }
-        ensures reduction { IfSome result (λ way. IsReduction self.now.start.now self.now.axes.edges first.now cube.now way) }
+        ensures reduction { IfSome result (λ way. IsReduction self.now.start.now self.now.axes.edges first.now from.now.cube way) }
     {
         let step = self.tables.step();
-        if !reduction.first_reaches(step, cube) {
+        if !reduction.first_reaches(step, &from.cube) {
             return None;
         }
         let total = total_after(self.start, first, reduction.normal(), reduction.inverse());
-        let (corners, edges) = case_of(self.axes.domino, cube);
+        let (corners, edges) = case_of(self.axes.domino, &from.cube);
         Some(Way {
             total,
             corners: corners as u8,
             edges: edges as u8,
-            on_normal: 0,
-            on_inverse: 0,
+            on_normal: from.on_normal,
+            on_inverse: from.on_inverse,
             eo,
             dr: Part::of(self.start.names(), step, reduction),
         })

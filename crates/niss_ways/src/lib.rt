@@ -20,6 +20,7 @@ mod last_turns;
 mod listing;
 mod looks;
 mod made;
+mod measured;
 mod nearest;
 mod oriented;
 mod reductions_after;

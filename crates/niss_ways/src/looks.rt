@@ -4,6 +4,7 @@ ghost use Rattle.niss_cube.specs.Map.{map_of};
 ghost use Rattle.niss_search.specs.Budgets.{is_cut_in};
 ghost use Rattle.niss_cube.specs.Steps.{may_start};
 ghost use Rattle.niss_search.specs.BothSides.{pairs_with, looks_with};
+ghost use Rattle.niss_search.specs.Cubes.{distance_of};
 ghost use Rattle.niss_ways.specs.Searched.{Searched};
 
 use niss_cube::Cube;
@@ -11,9 +12,6 @@ use niss_search::{
     Meter, PairSink, PairsWanted, StepFrom, Stopped, Tables, search_pairs_of_length,
 };
 use std::alloc::Allocator;
-
-/// More turns than a solution has.
-pub const NO_LENGTH: u8 = 21;
 
 /// The call would look more often than it may.
 #[derive(Clone, Copy, Debug, PartialEq, Eq)]
@@ -54,27 +52,13 @@ impl Looks {
         self.most - self.count()
     }
 
-    /// The least length of a step from a cube, or 21 if it is more than 20, or if the step may not start there.
-    pub fn distance<A: Allocator>(&mut self, tables: &Tables<A>, cube: &Cube) -> Result<u8, Cut>
-        ensures most { self.new.most ≡ self.old.most }
-        ensures length { IfOk result (λ length. length ≤ 21) }
-    {
-        if !tables.step().may_start(cube) {
-            return Ok(NO_LENGTH);
-        }
-        self.distance_from(tables, cube)
-    }
-
-    /// The same from a cube on which the step may start.
+    /// The least length of a step from a cube on which it may start, or 21 if it is more than 20.
     #[inline(never)]
-    pub fn distance_from<A: Allocator>(
-        &mut self,
-        tables: &Tables<A>,
-        cube: &Cube,
-    ) -> Result<u8, Cut>
+    pub fn distance<A: Allocator>(&mut self, tables: &Tables<A>, cube: &Cube) -> Result<u8, Cut>
         requires { IsTrue (may_start tables.now (map_of cube.now)) }
         ensures most { self.new.most ≡ self.old.most }
         ensures length { IfOk result (λ length. length ≤ 21) }
+        ensures value { IfOk result (λ length. length ≡ distance_of tables.now (map_of cube.now)) }
     {
         let most = self.most;
         if self.meter.count() >= u128::from(most) {

@@ -2,8 +2,10 @@
 ghost use Rattle.niss_moves.specs.Effects.{effect_of_turns};
 ghost use Rattle.niss_moves.specs.Places.{Place, SameMap};
 ghost use Rattle.niss_cube.specs.Map.{map_of};
-ghost use Rattle.std.specs.Prelude.{◌≡◌, ◌<◌, ◌≤◌, ◌++◌, List, length, map, reverse, IfSome, MatchOption};
+ghost use Rattle.std.specs.Prelude.{◌≡◌, ◌<◌, ◌≤◌, ◌++◌, List, get_or, length, map, reverse, IfSome, MatchOption};
 ghost use Rattle.niss_moves.specs.Effects.{effect, inverse, inverse_turn};
+ghost use Rattle.niss_moves.specs.Facelets.{centre};
+ghost use Rattle.niss_moves.specs.Indices.{face_index};
 ghost use Rattle.niss_moves.specs.Rotations.{IsRotationOf, faces, spelling};
 ghost use Rattle.niss_moves.specs.declared.token.Token.{Token};
 ghost use Rattle.niss_ways.specs.Starts.{turns_after};
@@ -104,13 +106,28 @@ fn undone(line: &Niss) -> ArrayVec<Token, 256>
     moves
 }
 
-/// What each face is called after a rotation.
-fn names_after(rotation: Rotation) -> Names {
-    let mut names = [Face::U; 6];
-    for face in [Face::U, Face::D, Face::R, Face::L, Face::F, Face::B] {
-        names[rotation.face_before(face) as usize] = face;
+/// All faces, each at its own place.
+const FACES: [Face; 6] = [Face::U, Face::D, Face::R, Face::L, Face::F, Face::B];
+
+/// What a face is called after a rotation: the face to whose place its centre is brought.
+fn name_after(rotation: Rotation, face: Face) -> Face
+    ensures { effect (spelling rotation) (centre face) ≡ centre result }
+{
+    let mut rest = FACES.as_slice();
+    while let Some((name, others)) = rest.split_first() {
+        if rotation.face_before(*name) == face {
+            return *name;
+        }
+        rest = others;
     }
-    names
+    face
+}
+
+/// What each face is called after a rotation.
+fn names_after(rotation: Rotation) -> Names
+    ensures { (f : Face) → effect (spelling rotation) (centre f) ≡ centre (get_or result (face_index f) f) }
+{
+    FACES.map(|face| name_after(rotation, face))
 }
 
 /// Three sequences as one, if they aren't too many turns.

@@ -6,7 +6,7 @@ ghost use Rattle.niss_ways.specs.Rooms.{Grows};
 ghost use Rattle.niss_ways.specs.Sinks.{Keeps, KeepsRows};
 
 use super::{FirstSteps, Task};
-use crate::admitted::Admitted;
+use crate::admitted::{Admitted, longest_of};
 use crate::finding::{FoundWays, Wish};
 use crate::following::{Following, Found};
 use crate::looks::{Cut, Looks};
@@ -24,9 +24,9 @@ use std::alloc::Allocator;
 #[derive(Drop)]
 struct Plan<'a> {
     wish: &'a Wish,
-    fb: Admitted,
-    rl: Admitted,
-    ud: Admitted,
+    fb: Option<Admitted>,
+    rl: Option<Admitted>,
+    ud: Option<Admitted>,
 }
 
 impl<'a> Plan<'a> {
@@ -48,7 +48,7 @@ impl<'a> Plan<'a> {
     }
 
     /// Those on an axis.
-    fn on(&self, axis: Axis) -> Admitted {
+    fn on(&self, axis: Axis) -> Option<Admitted> {
         match axis {
             Axis::Fb => self.fb,
             Axis::Rl => self.rl,
@@ -58,10 +58,9 @@ impl<'a> Plan<'a> {
 
     /// The greatest length that is let in.
     fn longest(&self) -> u8 {
-        self.fb
-            .longest()
-            .max(self.rl.longest())
-            .max(self.ud.longest())
+        longest_of(self.fb)
+            .max(longest_of(self.rl))
+            .max(longest_of(self.ud))
     }
 }
 
@@ -80,14 +79,14 @@ fn admitted_on<A: Allocator>(
     wish: &Wish,
     axis: Axis,
     looks: &mut Looks,
-) -> Result<Admitted, Cut>
+) -> Result<Option<Admitted>, Cut>
     ensures { looks.new.most ≡ looks.old.most }
 {
     match tables.on(axis) {
         Some(on_axis) if wish.axes.has(axis) => {
             Admitted::find(on_axis.orientation, start, wish.slack, looks)
         }
-        _ => Ok(Admitted::NONE),
+        _ => Ok(None),
     }
 }
 

@@ -6,7 +6,7 @@ ghost use Rattle.niss_ways.specs.Rooms.{Grows};
 ghost use Rattle.niss_ways.specs.Sinks.{Keeps};
 
 use super::{FirstSteps, Task};
-use crate::admitted::Admitted;
+use crate::admitted::{Admitted, longest_of};
 use crate::finding::{FoundWays, Wish};
 use crate::following::Following;
 use crate::looks::{Cut, Looks};
@@ -96,8 +96,10 @@ impl<'a, A: Allocator> FirstSteps<'a, A> {
         ensures { Keeps self.old self.new }
     {
         self.tried = self.tried.saturating_add(1);
-        let (on_normal, on_inverse) = (self.admitted.normal, self.admitted.inverse);
-        let Some(way) = following.row_of_reduction(reduction, on_normal, on_inverse) else {
+        let Some(admitted) = &self.admitted else {
+            return;
+        };
+        let Some(way) = following.row_of_reduction(reduction, &admitted.from) else {
             return;
         };
         let count = self.count;
@@ -117,7 +119,7 @@ impl<'a, A: Allocator> FirstSteps<'a, A> {
         self.step = reduction;
         self.admitted = Admitted::find(reduction, self.start, wish.slack, looks)?;
         self.go(wish, looks)?;
-        Ok(self.admitted.longest() > wish.to.get())
+        Ok(longest_of(self.admitted) > wish.to.get())
     }
 
     /// Takes those after the orientation on an axis, if it holds and is asked for.

@@ -16,4 +16,4 @@ returns-then-self-2-clause-ok c =
 pub returns-then-self-3-clause-ok : goal.returns-then-self-3-clause-ok
 returns-then-self-3-clause-ok c =
     counted_one c.args.self.now c.count-then-self-3.new.self (pair c.args.normal.now.turns c.args.inverse.now.turns)
-    c.count-then-self-3.ensures c.if-self.false c.if-self-2.false
+    c.count-then-self-3.ensures c.if-self-3.true c.if-self.false c.if-self-2.false
