@@ -49,6 +49,8 @@ async function tryWrong() {
   for (const wrong of [-1, 0.5, Number.NaN]) same(`${wrong} rows`, (await thrown(() => nissy.best("R", { most: wrong })))[0], "RangeError");
   for (const wrong of [-1, 0.5, Number.NaN, 2 ** 53]) same(`${wrong} nodes`, (await thrown(() => nissy.best("R", { nodes: wrong })))[0], "RangeError");
   for (const wrong of [null, "1", 1n]) same(`nodes of another type: ${wrong}`, (await thrown(() => nissy.best("R", { nodes: wrong })))[0], "TypeError");
+  for (const wrong of [-1, 0.5, Number.NaN]) same(`${wrong} milliseconds`, (await thrown(() => nissy.best("R", { milliseconds: wrong })))[0], "RangeError");
+  same("a time of another type", (await thrown(() => nissy.best("R", { milliseconds: "1" })))[0], "TypeError");
   same("no options", (await thrown(() => nissy.best("R", null)))[0], "TypeError");
   same("what the caller throws", await thrown(() => nissy.best("R U F2 L D", { onProgress: () => { throw new RangeError("enough"); } })), ["RangeError", "enough"]);
 }
@@ -133,6 +135,30 @@ async function tryCuts() {
   worker.end();
 }
 
+/** A search ends after a time, also in a worker, a pool and of many scrambles; one that has time enough doesn't. */
+async function tryTime() {
+  const rows = nissy.best("U R F");
+  same("time enough", [nissy.best("U R F", { milliseconds: 3_600_000 }), nissy.best("U R F", { milliseconds: undefined })], [rows, rows]);
+  same("no time", (await thrown(() => nissy.best("U R F", { milliseconds: 0 })))[0], "SearchCut");
+  const none = nissy.best("U R F", { milliseconds: 0, cut: "value" });
+  same("what is found in no time", [[...none], none.cut, none.nodes], [[], true, 0]);
+  const waits = (milliseconds) => { for (const end = performance.now() + milliseconds; performance.now() < end;); };
+  let told = 0;
+  const some = nissy.best("U R F", { milliseconds: 60_000, nodes: rows.nodes, onProgress: () => { told += 1; } });
+  same("a bound on both", some, rows);
+  const early = nissy.best("U R F", { milliseconds: 1, cut: "value", onProgress: () => waits(2) });
+  same("the time of who follows counts", [early.cut, early.nodes], [true, 0]);
+  same("it is told of three axes at least", told > 3, true);
+  const [worker, pool] = [await NissyWorker.start(moduleBytes), await NissyPool.start(2, moduleBytes)];
+  for (const engine of [worker, pool]) {
+    const cut = await engine.best("U R F", { milliseconds: 0, cut: "value" });
+    same("no time elsewhere", [[...cut], cut.cut], [[], true]);
+    same("time enough elsewhere", [...await engine.best("U R F", { milliseconds: 3_600_000 })], [...rows]);
+    same("of many", (await engine.bestAll(["U R F", "q"], { milliseconds: 0, cut: "value" })).map((it) => it.cut ?? it.name), [true, "NissyFault"]);
+    engine.end();
+  }
+}
+
 /** In a pool each axis has the bound by itself, and all have it together. */
 async function tryPoolBounds() {
   const [pool, rows] = [await NissyPool.start(2, moduleBytes), [...nissy.best("U R F")]];
@@ -161,5 +187,6 @@ await tryFaults(nissy);
 await tryWrong();
 tryProgress(nissy.scramble(20261127, 1, 25));
 await tryCuts();
+await tryTime();
 await tryPoolBounds();
 ended();

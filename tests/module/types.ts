@@ -140,7 +140,7 @@ export async function leftOpen(nissy: Nissy, worker: NissyWorker, pool: NissyPoo
   const onProgress: ((done: number, all: number | null) => void) | undefined = undefined;
   const counts: (Count | NissyFault | RangeError)[] = await pool.countAll("eofb", ["R"], { ...within, ...bounds, faults: undefined, signal, onProgress });
   const solutions: Solutions = nissy.solve("eofb", "R", { ...within, ...bounds });
-  const best: Best = await pool.best("R", { soFar: undefined, slack: open, most: open, ...bounds, signal, onProgress });
+  const best: Best = await pool.best("R", { soFar: undefined, slack: open, most: open, milliseconds: open, ...bounds, signal, onProgress });
   for await (const { moves } of worker.solutions("eofb", "R", { limit: open, slack: open, signal })) if (moves) break;
   const { status } = await worker.run(["steps"], "", { room: open, signal });
   return [counts, solutions, best, status, stickersOf([], undefined)].flat().join(" ");

@@ -31,7 +31,7 @@ const reading = (call: "plainLine" | "readAttempts", read: (told: any, text: str
 
 const OF_COUNTS = ["limit", "slack", "most", "nodes", "cut"];
 const OF_LISTS = [...OF_COUNTS, "sides"];
-const OF_BEST = ["soFar", "slack", "most", "nodes", "cut"];
+const OF_BEST = ["soFar", "slack", "most", "nodes", "milliseconds", "cut"];
 
 /** A call on many lines, or pairs. @param each what one line may be asked, for which the empty line stands */
 const many = (

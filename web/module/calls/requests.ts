@@ -19,7 +19,7 @@ export type SolveRequest = Search & { call: "solve"; after?: Text | undefined };
 export type OfEach = SolveRequest
   | Search & { call: "count" }
   | Search & { call: "solveSides"; sides: Sides }
-  | Bounds & { call: "best"; scramble: Text; soFar: Text; axes: readonly number[] }
+  | Bounds & { call: "best"; scramble: Text; soFar: Text; axes: readonly number[]; milliseconds: number }
   | { call: "facts"; line: Text }
   | { call: "check"; scramble: Text; solution: Text };
 /** What an engine is asked. */
@@ -51,8 +51,10 @@ export type Known = { scrambles?: readonly Text[] | undefined };
 
 /** What is wanted of the best ways on: `soFar`, the moves that were made after the scramble, those in brackets on its
  * inverse, else none; `slack`, how many turns longer the first step may be than the shortest on the scramble alone, on
- * its inverse alone, or over both, else none; `most`, how many rows, else 20; `nodes`, of each axis in a pool. */
-export type BestWanted = Omit<Wanted, "limit"> & { soFar?: Text | undefined };
+ * its inverse alone, or over both, else none; `most`, how many rows, else 20; `nodes`, of each axis in a pool;
+ * `milliseconds`, after which no piece is begun, of one length of the first step and one axis each, and the search is
+ * cut: with a slack of 3 one may take some seconds. */
+export type BestWanted = Omit<Wanted, "limit"> & { soFar?: Text | undefined; milliseconds?: number | undefined };
 
 export const MOST_TURNS = 20;
 
@@ -184,6 +186,7 @@ export const bestRequest = (scramble: unknown, options: unknown = {}): RequestOf
   ...lineAfterRequest(scramble, optionOf(options, "soFar")),
   call: "best",
   ...boundsIn(options, "rows", MOST_TOLD),
+  milliseconds: boundOf(options, "milliseconds", "milliseconds"),
   axes: ALL_AXES,
 });
 

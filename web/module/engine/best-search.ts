@@ -68,13 +68,16 @@ function wholePiece(
 /** The best ways on: those with shorter first steps on all axes are looked for before those with longer ones.
  * @param tell what it throws ends the search */
 export function bestOf(instance: Instance, request: RequestOf<"best">, tell: Follow): BestReply {
+  const end = performance.now() + request.milliseconds;
   let found: FoundWays = { ways: new Uint8Array(0), tried: 0, nodes: 0 };
   let open = request.axes;
   for (let length = 0; open.length > 0; length += 1) {
     const longer = [];
     for (const axis of open) {
       tell({ done: found.tried, all: null });
-      const reply = wholePiece(instance, request, { axis, length }, found);
+      // a piece that may not look tells of a fault all the same
+      const nodes = performance.now() < end ? request.nodes : found.nodes;
+      const reply = wholePiece(instance, { ...request, nodes }, { axis, length }, found);
       if (!("ways" in reply)) return reply;
       const { status, next, ...all } = reply;
       if (status === STATUS.cut) return { status, ...all };
