@@ -23,7 +23,7 @@ foreign_capital b (inr (inl is)) capital = grind (arith, nat_tests)
 foreign_capital b (inr (inr is)) capital = grind (arith, nat_tests)
 
 -- what no test makes true
-never_so : (p q r s t : Bool) → (if p then false else if q then false else if r then false else if s then false else if t then false else false) ≡ true → ⊥
+pub never_so : (p q r s t : Bool) → (if p then false else if q then false else if r then false else if s then false else if t then false else false) ≡ true → ⊥
 never_so true q r s t is = false≢true is
 never_so false true r s t is = false≢true is
 never_so false false true s t is = false≢true is

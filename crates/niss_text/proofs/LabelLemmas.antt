@@ -2,16 +2,17 @@
 use Rattle.std.proofs.Common.{◌≡◌, ℕ, ◌+◌, ◌-◌, ◌<◌, ◌≤◌, true, List, ◌++◌, length, take, drop, slice_range, sym, ap, ◌∙◌, append_assoc, length-drop, arith}
 use Rattle.std.proofs.Math.Seq.{take-add}
 use Rattle.std.proofs.lemmas.List.{drop-drop}
-use Rattle.niss_text.specs.Signs.{AreWords, AreSigns, is_spacing, ends_title, is_colon}
+use Rattle.niss_text.specs.Signs.{AreSigns, is_spacing, ends_title, is_colon}
 use Rattle.niss_text.proofs.SpacingLemmas.{signs_none}
 use Rattle.niss_text.specs.Kept.{AreTurns, IsCount}
+use Rattle.niss_text.specs.Titles.{AreLabelWords}
 use Rattle.niss_text.specs.Pieces.{EndsWithColon}
 use Rattle.niss_text.proofs.KeptLemmas.{title_end}
 
 -- what stands behind words, a number of moves and blanks is a colon
 pub colon_end : (line count after rest : List ℕ) (w c e n : ℕ) → count ≡ drop w line → w ≤ length line → c ≤ length count → (0 < c → IsCount (take c count)) →
     after ≡ drop c count → length rest ≤ length after → rest ≡ drop (length after - length rest) after →
-    AreSigns is_spacing (take (length after - length rest) after) → e ≤ length rest → AreWords (take w line) → (AreTurns (take w line) → ⊥) → is_colon (take e rest) ≡ true →
+    AreSigns is_spacing (take (length after - length rest) after) → e ≤ length rest → AreLabelWords (take w line) → (AreTurns (take w line) → ⊥) → is_colon (take e rest) ≡ true →
     n ≡ length line - length rest + e → EndsWithColon (take n line)
 colon_end line count after rest w c e n first within fits counted second left last blanks close words no_turns is long =
     let b : ℕ = length after - length rest in

@@ -16,7 +16,7 @@ pub record HasLayers (text : List ℕ) : Type 0 where
   pub wide : (get_or text 2 0 == 119) ≡ true
   pub ended : not (is_letter (get_or text 3 0)) ≡ true
 
-layers_parts : (text : List ℕ) → begins_with_layers text ≡ true → HasLayers text
+pub layers_parts : (text : List ℕ) → begins_with_layers text ≡ true → HasLayers text
 unfolding begins_with_layers
 layers_parts text is =
     let ended : Bool = not (is_letter (get_or text 3 0)) in

@@ -1,5 +1,6 @@
 pub mod SignLemmas
 pub mod PlainLemmas
+pub mod AxisLemmas
 pub mod LabelLemmas
 pub mod LineLemmas
 pub mod PassedLemmas
@@ -10,6 +11,7 @@ pub mod VanishLemmas
 pub mod KeptLemmas
 pub mod WordLemmas
 pub mod LayerLemmas
+pub mod StopLemmas
 pub mod ToldLemmas
 pub mod DoubtLemmas
 pub mod MovesLemmas

@@ -184,6 +184,16 @@ no_attempt lines at =
     let none : 0 ≡ at - at = omega arith in
     subst (λ n. All (λ (l : TextLine). l.attempt ≡ 0) (take n (drop at lines))) none (All-nil (λ (l : TextLine). l.attempt ≡ 0))
 
+-- lines are numbered from the first one on as their part is that begins there
+pub numbered_from_first : (old new : List TextLine) (written all number after : ℕ) →
+    (AreNumbered 0 (slice_range old 0 written) number → AreNumbered 0 (slice_range new 0 all) after) →
+    AreNumbered 0 (take written old) number → AreNumbered 0 (take all new) after
+numbered_from_first old new written all number after far begun =
+    subst (λ n. AreNumbered 0 (take n new) after) (same all) (far (subst (λ n. AreNumbered 0 (take n old) number) (sym (same written)) begun))
+  where
+    same : (n : ℕ) → n - 0 ≡ n
+    same n = omega arith
+
 -- so are those of one attempt from a place on
 pub one_attempt : (old new : List TextLine) (at n number : ℕ) → number ≡ 0 →
     (AreNumbered 0 (slice_range old at at) number → AreNumbered 0 (slice_range new at n) (number + 1)) → All (λ (l : TextLine). l.attempt ≡ 0) (slice_range new at n)

@@ -152,6 +152,22 @@ pub record IsAsWritten (text : List ℕ) (from to : ℕ) : Type 0 where
   pub apart : (j : ℕ) → from < j → j < to → sees text Parted j ≡ true → IsParted text from to
   pub unprimed : ((j : ℕ) → from ≤ j → j < to → sees text Prime j ≡ false) → IsParted text from to
 
+-- What makes one doubt a step beside its letters, and where: it is no other scramble and no step or scramble, and nothing
+-- is said at the line's end. Small letters are in doubt where one stands and no capital one does. If nothing is, there are
+-- none without a capital one, no digit in square brackets among the moves, no y that joins them, and no two turns after
+-- them.
+pub record DoubtsStep (text : List ℕ) (line : TextLine) (doubt : Doubt) (at : ℕ) : Type 0 where
+  pub place : (line.begin ≤ at) × (at ≤ line.end)
+  pub others : number_of doubt ≡ 4 → ⊥
+  pub one : (number_of doubt ≡ 1 → ⊥) × (number_of doubt ≡ 11 → ⊥)
+  pub nowhere : doubt ≡ Nothing → at ≡ line.end
+  pub small : doubt ≡ SmallLetters → sees text Small at ≡ true
+  pub no_capital : doubt ≡ SmallLetters → HasNone text Capital line.moves line.comment
+  pub capital : doubt ≡ Nothing → HasNone text Capital line.moves line.comment → HasNone text Small line.moves line.comment
+  pub unmarked : doubt ≡ Nothing → HasNone text Marked (line.moves + 1) line.comment
+  pub unjoined : doubt ≡ Nothing → HasNone text Joint (line.moves + 1) line.comment
+  pub unpaired : doubt ≡ Nothing → HasNone text Pair line.comment line.end
+
 -- a line is a step, and nothing stands after its moves
 pub record IsUncommentedStep (line : TextLine) : Type 0 where
   pub kind : line.kind ≡ 3

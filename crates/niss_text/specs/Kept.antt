@@ -1,5 +1,5 @@
 -- What stands in a line before its moves, in its head and between its parts: none of its moves.
-use Rattle.std.specs.Prelude.{◌≡◌, ℕ, ◌+◌, ◌-◌, ◌<◌, ◌⊎◌, ◌==◌, Bool, true, false, not, ◌||◌, ◌&&◌, List, [], ◌∷◌, ◌++◌, length, take, drop, map, slice_index, slice_range, if◌then◌else◌, codes}
+use Rattle.std.specs.Prelude.{◌≡◌, ℕ, ◌+◌, ◌-◌, ◌<◌, ◌⊎◌, ◌==◌, Bool, true, false, not, ◌||◌, ◌&&◌, List, [], ◌∷◌, ◌++◌, length, take, drop, map, nat_lt, slice_index, slice_range, if◌then◌else◌, codes}
 use Rattle.std.specs.List.{All, Contains, concat, list_any}
 use Rattle.niss_text.specs.Signs.{HasNoMoves, AreSigns, ends_title, is_digit, is_within, begins_count}
 use Rattle.niss_text.specs.Doubts.{is_capital, is_letter}
@@ -143,6 +143,17 @@ IsTurnUpTo bytes count = ((k : ℕ) → k < count → is_turn (slice_index bytes
 pub record ArePlainBefore (bytes : List ℕ) (count : ℕ) : Type 0 where
   pub moves : ArePlain (take count bytes)
   pub slashes : (slice_index bytes count ≡ 47) × (slice_index bytes (count + 1) ≡ 47)
+
+-- a full stop stands at a place right after something, and that is no blank
+unfoldable pub is_stop : List ℕ → ℕ → Bool
+is_stop text k = nat_lt 0 k && ((slice_index text k == 46) && not (slice_index text (k - 1) == 32))
+
+-- The first bytes of a line, that many, are two or more such moves, and one full stop stands right after them at its end.
+pub record AreStopped (bytes : List ℕ) (count : ℕ) : Type 0 where
+  pub moves : AreInNotation (take count bytes)
+  pub several : (k : ℕ) × (k < count) × (slice_index bytes k ≡ 32)
+  pub stop : is_stop bytes count ≡ true
+  pub last : length bytes ≡ count + 1
 
 -- a text ends, or goes on with a blank
 unfoldable pub is_over : List ℕ → Bool

@@ -4,6 +4,7 @@ pub mod Pieces
 pub mod Doubts
 pub mod Order
 pub mod Kept
+pub mod FirstSigns
 pub mod Titles
 pub mod Steps
 pub mod Said

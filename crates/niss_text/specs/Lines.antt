@@ -150,6 +150,12 @@ AreNumbered seen [] all = seen ≡ all
 AreNumbered seen (line ∷ lines) all =
     ((line.attempt ≡ seen) × AreNumbered (seen + 1) lines all) ⊎ ((line.attempt + 1 ≡ seen) × AreNumbered seen lines all)
 
+-- Lines that are written after that many others, up to all of them, go on with their numbers: those from any first one on
+-- are numbered with the new ones as they were without.
+abbrev pub NumbersOn : (old new : List TextLine) (written all number after : ℕ) → Type 0
+NumbersOn old new written all number after = (seen first : ℕ) → first ≤ written → AreNumbered seen (slice_range old first written) number →
+    all ≤ length new → AreNumbered seen (slice_range new first all) after
+
 -- Those are a text's first lines, in order, and so are the numbers of their attempts.
 abbrev pub Begins : List ℕ → List TextLine → Type 0
 Begins text lines = (to : ℕ) × Covers text 0 lines to

@@ -4,7 +4,8 @@ use Rattle.niss_text.specs.declared.piece.Piece.{Piece}
 use Rattle.niss_text.specs.declared.piece.Place.{Place}
 use Rattle.niss_text.specs.declared.piece.Place.TheVariants.{Begin, Numbered, Moves, Among}
 use Rattle.niss_text.specs.declared.piece.Piece.TheVariants.{Kept, Blank, LineEnd, Comma, Apostrophe, Unseen, Label, LineNumber, MoveCount, Comment}
-use Rattle.niss_text.specs.Signs.{AreWords, IsOneOf, is_blank, is_line_end, is_comma, is_apostrophe, is_unseen, is_colon, is_letter, ends_line, begins_number, begins_changed}
+use Rattle.niss_text.specs.Signs.{IsOneOf, is_blank, is_line_end, is_comma, is_apostrophe, is_unseen, is_colon, is_letter, ends_line, begins_number, begins_changed}
+use Rattle.niss_text.specs.Titles.{AreLabelWords}
 use Rattle.niss_text.specs.Kept.{AreTurns, BeginNoMoves, BeginsWithTitle, HasOnlyWords, IsCount, IsTitleEnd, words_of_title}
 
 -- A piece of a text, with its bytes.
@@ -19,13 +20,13 @@ part kind bytes = record { kind = kind; bytes = bytes }
 abbrev pub IsWithinLine : List ℕ → Type 0
 IsWithinLine bytes = (k : ℕ) → k < length bytes → ends_line (slice_index bytes k) ≡ false
 
--- Words that are no turns end with a colon, before which a number of moves may stand.
+-- Words of a label that are no turns end with a colon, before which a number of moves may stand.
 pub record EndsWithColon (bytes : List ℕ) : Type 0 where
   pub words : List ℕ
   pub title : List ℕ
   pub colon : List ℕ
   pub whole : words ++ (title ++ colon) ≡ bytes
-  pub are_words : AreWords words
+  pub are_words : AreLabelWords words
   pub no_turns : AreTurns words → ⊥
   pub end : IsTitleEnd title
   pub is : is_colon colon ≡ true

@@ -1,7 +1,15 @@
 -- Moves with what is said of them: words before a colon that are no label, and a turn that is told from words by itself.
-use Rattle.std.specs.Prelude.{◌≡◌, ℕ, ◌+◌, ◌==◌, ◌<◌, ◌⊎◌, Bool, true, false, not, ◌||◌, ◌&&◌, List, length, drop, slice_index, if◌then◌else◌}
-use Rattle.niss_text.specs.Signs.{is_within}
-use Rattle.niss_text.specs.Doubts.{is_capital, is_letter}
+use Rattle.std.specs.Prelude.{◌≡◌, ℕ, ◌+◌, ◌-◌, ◌==◌, ◌<◌, ◌⊎◌, Bool, true, false, not, ◌||◌, ◌&&◌, List, length, drop, slice_index, if◌then◌else◌}
+use Rattle.niss_text.specs.Signs.{is_within, parts_words}
+use Rattle.niss_text.specs.Doubts.{is_axis, is_capital, is_letter}
+
+-- a slash stands at a place of a text between the letters of two opposite faces, which name an axis, as in R/L
+unfoldable pub parts_axis : List ℕ → ℕ → Bool
+parts_axis text k = (slice_index text k == 47) && is_axis text (k - 1)
+
+-- Bytes are the words of a label: they are words, but for the slashes of axes.
+abbrev pub AreLabelWords : List ℕ → Type 0
+AreLabelWords bytes = (k : ℕ) → k < length bytes → parts_words (slice_index bytes k) ≡ true → parts_axis bytes k ≡ true
 
 -- a text begins with two turns of faces, or with a half one, each by itself
 unfoldable pub begins_with_step : List ℕ → Bool

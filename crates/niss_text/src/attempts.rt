@@ -2,7 +2,7 @@
 ghost use Rattle.std.specs.Prelude.{◌≡◌, ◌≤◌, ◌<◌, ◌+◌, ◌⊎◌, ℕ, List, true, false, length, take, drop, set, slice_range, ◌&&◌, nat_le};
 ghost use Rattle.std.specs.List.{All};
 ghost use Rattle.niss_text.specs.Numbers.{number_of_kind};
-ghost use Rattle.niss_text.specs.Lines.{Covers, Counts, TakesBy, Remain, AreNumbered, Begins, BeginNumbered};
+ghost use Rattle.niss_text.specs.Lines.{Covers, Counts, TakesBy, Remain, AreNumbered, NumbersOn, Begins, BeginNumbered};
 ghost use Rattle.niss_text.specs.Said.{is_a_head};
 ghost use Rattle.niss_text.specs.Groups.{AreGrouped, AreBelow, Goes, is_that};
 
@@ -209,10 +209,7 @@ fn put_attempt(
     ensures counts { Counts text.now 0 written begin → Counts text.now 0 result.0 result.1 }
     ensures remain { (all end : ℕ) → begin + attempt.now.length ≤ end → end ≤ length text.now → Remain text.now all written begin end →
         Remain text.now all result.0 result.1 end }
-    ensures numbers { AreNumbered 0 (take written lines.old) attempt.now.number → result.0 ≤ length lines.new →
-        AreNumbered 0 (take result.0 lines.new) (attempt.now.number + 1) }
-    ensures numbers_on { (seen first : ℕ) → first ≤ written → AreNumbered seen (slice_range lines.old first written) attempt.now.number →
-        result.0 ≤ length lines.new → AreNumbered seen (slice_range lines.new first result.0) (attempt.now.number + 1) }
+    ensures numbers { NumbersOn lines.old lines.new written result.0 attempt.now.number (attempt.now.number + 1) }
     ensures begins { (written ≤ length lines.old → Covers text.now 0 (take written lines.old) begin) →
         Begins text.now (take written lines.old) → Begins text.now (take result.0 lines.new) }
     ensures in_order { (written ≤ length lines.old → AreNumbered 0 (take written lines.old) attempt.now.number) →
@@ -252,10 +249,8 @@ pub fn put_attempts(text: &[u8], end: usize, so_far: Progress, lines: &mut [Text
     ensures kept { take so_far.lines lines.new ≡ take so_far.lines lines.old }
     ensures counts { Counts text.now 0 so_far.lines so_far.at → Counts text.now 0 result.lines result.at }
     ensures all { (all : ℕ) → Remain text.now all so_far.lines so_far.at end → (result.at ≡ end) × (result.lines ≡ all) }
-    ensures numbers { AreNumbered 0 (take so_far.lines lines.old) so_far.attempts → so_far.attempts ≤ so_far.at →
-        result.lines ≤ length lines.new → AreNumbered 0 (take result.lines lines.new) result.attempts }
-    ensures numbers_on { (seen first : ℕ) → first ≤ so_far.lines → AreNumbered seen (slice_range lines.old first so_far.lines) so_far.attempts →
-        so_far.attempts ≤ so_far.at + 1 → result.lines ≤ length lines.new → AreNumbered seen (slice_range lines.new first result.lines) result.attempts }
+    ensures numbers { so_far.attempts ≤ so_far.at + 1 →
+        NumbersOn lines.old lines.new so_far.lines result.lines so_far.attempts result.attempts }
     ensures begins { (so_far.lines ≤ length lines.old → Covers text.now 0 (take so_far.lines lines.old) so_far.at) →
         Begins text.now (take so_far.lines lines.old) → Begins text.now (take result.lines lines.new) }
     ensures in_order { (so_far.lines ≤ length lines.old → AreNumbered 0 (take so_far.lines lines.old) so_far.attempts) →

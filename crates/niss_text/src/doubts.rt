@@ -1,6 +1,6 @@
 //! What makes one doubt that a line is read as it was meant.
 ghost use Rattle.std.specs.Prelude.{◌≡◌, ◌≤◌, ◌<◌, ◌+◌, ◌-◌, ◌⊎◌, ℕ, true, false, length, slice_range, IfSome};
-ghost use Rattle.niss_text.specs.Doubts.{IsDoubted, IsAsWritten, IsCalledScramble, IsUncommentedStep, MayBeScramble, HasNone, number_of, sees};
+ghost use Rattle.niss_text.specs.Doubts.{DoubtsStep, IsDoubted, IsAsWritten, IsCalledScramble, IsUncommentedStep, MayBeScramble, HasNone, number_of, sees};
 ghost use Rattle.niss_text.specs.Doubts.{is_letter as is_plain_letter};
 ghost use Rattle.niss_text.specs.Signs.{is_letter};
 ghost use Rattle.niss_text.specs.Said.{DeniesNothing, HasWord, HasNoSlashes, IsDenied, IsOnInverse, IsPlainlyOnInverse, IsSided, Names};
@@ -113,17 +113,7 @@ fn doubt_of_step(text: &[u8], told: &TextLine, slashes: usize, sheet: Sheet) -> 
     requires line { IsLine told.now.begin told.now }
     requires fits { told.now.end ≤ length text.now }
     requires slashes { (told.now.comment ≤ slashes) × (slashes ≤ told.now.end) }
-    ensures place { (told.now.begin ≤ result.1) × (result.1 ≤ told.now.end) }
-    ensures others { number_of result.0 ≡ 4 → ⊥ }
-    ensures one { (number_of result.0 ≡ 1 → ⊥) × (number_of result.0 ≡ 11 → ⊥) }
-    ensures nowhere { result.0 ≡ Nothing → result.1 ≡ told.now.end }
-    ensures small { result.0 ≡ SmallLetters → sees text.now Small result.1 ≡ true }
-    ensures no_capital { result.0 ≡ SmallLetters → HasNone text.now Capital told.now.moves told.now.comment }
-    ensures capital { result.0 ≡ Nothing → HasNone text.now Capital told.now.moves told.now.comment →
-        HasNone text.now Small told.now.moves told.now.comment }
-    ensures unmarked { result.0 ≡ Nothing → HasNone text.now Marked (told.now.moves + 1) told.now.comment }
-    ensures unjoined { result.0 ≡ Nothing → HasNone text.now Joint (told.now.moves + 1) told.now.comment }
-    ensures unpaired { result.0 ≡ Nothing → HasNone text.now Pair told.now.comment told.now.end }
+    ensures step { DoubtsStep text.now told.now result.0 result.1 }
     ensures ordered { result.0 ≡ Nothing → sheet.is_out_of_order ≡ false }
 {
     if has_moves_aside(&text[slashes..told.end]) {
@@ -157,17 +147,7 @@ fn doubt_of_step(text: &[u8], told: &TextLine, slashes: usize, sheet: Sheet) -> 
 fn doubt_seen(text: &[u8], told: &TextLine) -> (Doubt, usize)
     requires line { IsLine told.now.begin told.now }
     requires fits { told.now.end ≤ length text.now }
-    ensures place { (told.now.begin ≤ result.1) × (result.1 ≤ told.now.end) }
-    ensures others { number_of result.0 ≡ 4 → ⊥ }
-    ensures one { (number_of result.0 ≡ 1 → ⊥) × (number_of result.0 ≡ 11 → ⊥) }
-    ensures nowhere { result.0 ≡ Nothing → result.1 ≡ told.now.end }
-    ensures small { result.0 ≡ SmallLetters → sees text.now Small result.1 ≡ true }
-    ensures no_capital { result.0 ≡ SmallLetters → HasNone text.now Capital told.now.moves told.now.comment }
-    ensures capital { result.0 ≡ Nothing → HasNone text.now Capital told.now.moves told.now.comment →
-        HasNone text.now Small told.now.moves told.now.comment }
-    ensures unmarked { result.0 ≡ Nothing → HasNone text.now Marked (told.now.moves + 1) told.now.comment }
-    ensures unjoined { result.0 ≡ Nothing → HasNone text.now Joint (told.now.moves + 1) told.now.comment }
-    ensures unpaired { result.0 ≡ Nothing → HasNone text.now Pair told.now.comment told.now.end }
+    ensures { DoubtsStep text.now told.now result.0 result.1 }
 {
     let marked = first_seen(text, told.moves + 1, told.comment, Sight::Marked);
     if marked < told.comment {

@@ -8,10 +8,10 @@ ghost use Rattle.niss_text.specs.Said.{HasNoBracket, HasNoSlashes};
 ghost use Rattle.niss_text.specs.Kept.{AreTurns, IsTurnUpTo, HasNoLetters, HasOnlyWords, IsCount, IsTitleEnd, words_of_count};
 ghost use Rattle.niss_text.specs.Titles.{HasNoPair, HasTurn, IsTitle, begins_with_pair, begins_with_step, is_joined, turn_follows};
 
+use crate::label_words::{begins_label, label_words_length};
 use crate::sights::{byte_at, is_capital, is_letter as is_plain_letter};
 use crate::sign::{
-    Class, Kind, digits_length, first_kind, from_place, is_letter, is_of_word, is_skipped,
-    length_of, one_sign, trimmed,
+    Class, Kind, digits_length, first_kind, from_place, is_letter, length_of, one_sign, trimmed,
 };
 use crate::words::{is_other_side, word_length};
 
@@ -268,10 +268,10 @@ fn words_before_colon(line: &[u8]) -> (usize, usize)
     ensures end { IsTitleEnd (slice_range line.now result.0 result.1) }
     ensures colon { 0 < result.1 → (AreTurns (take result.0 line.now) → ⊥) → EndsWithColon (take result.1 line.now) }
 {
-    if line.len() < 2 || !is_letter(first_kind(line)) || !is_of_word(first_kind(&line[1..])) {
+    if !begins_label(line) {
         return (0, 0);
     }
-    let words = length_of(line, Class::Words);
+    let words = label_words_length(line);
     if words < 2 {
         return (0, 0);
     }

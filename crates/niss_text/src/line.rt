@@ -7,6 +7,7 @@ ghost use Rattle.niss_text.specs.Lines.{IsUnbroken, IsEnd, end_of, end_size};
 
 use crate::body::{are_long, has_frame, is_whole_scramble};
 use crate::forms::{blanks, line_length, margin};
+use crate::full_stop::says_more;
 use crate::heads::head_of;
 use crate::line_parts::parts_of;
 use crate::marks::is_bullet;
@@ -65,6 +66,8 @@ pub struct Line {
     is_numbered: bool,
     /// It has the sign of a list before its moves, and no words.
     is_listed: bool,
+    /// Something is said after its moves: more than a full stop.
+    is_said: bool,
     pub is_solution: bool,
     pub is_final: bool,
     pub is_step: bool,
@@ -109,6 +112,7 @@ impl Line {
             beside: seen_beside(&[], head.0 == Head::Word),
             is_numbered: false,
             is_listed: false,
+            is_said: false,
             is_solution: false,
             is_final: false,
             is_step: false,
@@ -145,7 +149,7 @@ impl Line {
 
     /// Whether something is said after its moves.
     pub fn has_comment(&self) -> bool {
-        self.comment < self.length
+        self.is_said
     }
 }
 
@@ -197,7 +201,8 @@ fn line_behind(line: &[u8], head_kind: Head, head: usize) -> Line
     let title = &line[parts.label_begin..parts.title_end];
     let body = &line[parts.moves..parts.comment];
     let is_solution = says_solution(title);
-    let has_words = head_kind == Head::Word || parts.comment < line.len();
+    let is_said = says_more(&line[parts.comment..]);
+    let has_words = head_kind == Head::Word || is_said;
     Line {
         head_kind,
         head,
@@ -213,6 +218,7 @@ fn line_behind(line: &[u8], head_kind: Head, head: usize) -> Line
         is_moves: parts.is_moves,
         beside: seen_beside(label, has_words),
         is_listed: !has_words && is_bullet(label),
+        is_said,
         is_numbered: label.iter().any(|byte| is_digit_byte(*byte)),
         is_solution,
         is_final: is_solution && says(title, Wanted::Final),

@@ -231,7 +231,7 @@ fn are_opposite(one: u8, other: u8) -> bool
 }
 
 /// Whether the letters of two opposite faces, of which one stands at a place of a text, name an axis: neither has a sign.
-fn is_axis(text: &[u8], at: usize) -> bool
+pub fn is_axis(text: &[u8], at: usize) -> bool
     requires { at < length text.now }
     ensures { result ≡ is_axis text.now at }
 {

@@ -3,6 +3,7 @@ ghost use Rattle.std.specs.Prelude.{◌≡◌, ◌<◌, ◌≤◌, ◌-◌, ℕ,
 ghost use Rattle.niss_text.specs.Signs.{IsSign, HasNoMoves, is_digit, is_letter, is_of_letters, is_of_words, is_skipped, is_kept, is_changed, is_spacing, begins_changed, ends_word, AreSigns, AreWords};
 ghost use Rattle.niss_text.specs.Doubts.{is_capital, is_letter as is_plain_letter};
 ghost use Rattle.niss_text.specs.Kept.{HasTurns, IsTurnUpTo, is_turn};
+ghost use Rattle.niss_text.specs.FirstSigns.{IsBehind, IsFirstSign, IsOfAscii};
 ghost use Rattle.niss_text.specs.declared.sign.Kind.TheVariants.{Capital, Colon};
 ghost use Rattle.niss_text.specs.declared.sign.Class.TheVariants.{Letters, NoBlanks, Skipped, Words};
 
@@ -144,17 +145,9 @@ fn kind_of_three(first: u8, second: u8, third: u8) -> Option<Kind>
 #[inline(always)]
 pub fn first_sign(text: &[u8]) -> Sign
     requires { 0 < length text.now }
-    ensures some { 0 < result.length }
-    ensures fits { result.length ≤ length text.now }
-    ensures is { IsSign result.kind (take result.length text.now) }
+    ensures sign { IsFirstSign text.now result }
     ensures kept { is_kept result.kind ≡ true → begins_changed text.now ≡ false }
-    ensures turn { is_turn (slice_index text.now 0) ≡ true → (ends_word result.kind ≡ false) × (result.length ≡ 1) }
-    ensures capital { is_capital (slice_index text.now 0) ≡ true → result.kind ≡ Capital }
-    ensures colon { slice_index text.now 0 ≡ 58 → result.kind ≡ Colon }
-    ensures blank { slice_index text.now 0 ≡ 32 → (is_skipped result.kind ≡ true) × (ends_word result.kind ≡ true) }
-    ensures letter { is_of_letters result.kind ≡ true → (result.length ≡ 1) × (is_letter (slice_index text.now 0) ≡ true) }
-    ensures plain { is_plain_letter (slice_index text.now 0) ≡ true → is_of_letters result.kind ≡ true }
-    ensures inner { (k : ℕ) → 0 < k → k < result.length → is_plain_letter (slice_index text.now k) ≡ false }
+    ensures ascii { IsOfAscii text.now result }
 {
     // no longer sign begins with another byte of ASCII
     if text[0] < 0x80 && text[0] != b'\r' {
@@ -170,13 +163,8 @@ pub fn first_sign(text: &[u8]) -> Sign
 #[inline(never)]
 fn longer_sign(text: &[u8]) -> Sign
     requires { 0 < length text.now }
-    ensures some { 0 < result.length }
-    ensures fits { result.length ≤ length text.now }
-    ensures is { IsSign result.kind (take result.length text.now) }
+    ensures sign { IsFirstSign text.now result }
     ensures kept { is_kept result.kind ≡ true → begins_changed text.now ≡ false }
-    ensures letter { is_of_letters result.kind ≡ true → (result.length ≡ 1) × (is_letter (slice_index text.now 0) ≡ true) }
-    ensures plain { is_plain_letter (slice_index text.now 0) ≡ true → is_of_letters result.kind ≡ true }
-    ensures inner { (k : ℕ) → 0 < k → k < result.length → is_plain_letter (slice_index text.now k) ≡ false }
 {
     if text.len() > 1 {
         if let Some(kind) = kind_of_two(text[0], text[1]) {
@@ -198,17 +186,9 @@ fn longer_sign(text: &[u8]) -> Sign
 #[inline(never)]
 pub fn one_sign(text: &[u8]) -> Sign
     requires { 0 < length text.now }
-    ensures some { 0 < result.length }
-    ensures fits { result.length ≤ length text.now }
-    ensures is { IsSign result.kind (take result.length text.now) }
+    ensures sign { IsFirstSign text.now result }
     ensures kept { is_kept result.kind ≡ true → begins_changed text.now ≡ false }
-    ensures turn { is_turn (slice_index text.now 0) ≡ true → (ends_word result.kind ≡ false) × (result.length ≡ 1) }
-    ensures capital { is_capital (slice_index text.now 0) ≡ true → result.kind ≡ Capital }
-    ensures colon { slice_index text.now 0 ≡ 58 → result.kind ≡ Colon }
-    ensures blank { slice_index text.now 0 ≡ 32 → (is_skipped result.kind ≡ true) × (ends_word result.kind ≡ true) }
-    ensures letter { is_of_letters result.kind ≡ true → (result.length ≡ 1) × (is_letter (slice_index text.now 0) ≡ true) }
-    ensures plain { is_plain_letter (slice_index text.now 0) ≡ true → is_of_letters result.kind ≡ true }
-    ensures inner { (k : ℕ) → 0 < k → k < result.length → is_plain_letter (slice_index text.now k) ≡ false }
+    ensures ascii { IsOfAscii text.now result }
 {
     first_sign(text)
 }
@@ -315,16 +295,7 @@ pub fn from_place(text: &[u8], at: usize) -> &[u8]
 /// What is after the signs of a class in front of a text.
 #[inline(never)]
 pub fn behind(text: &[u8], class: Class) -> &[u8]
-    ensures fits { length result.now ≤ length text.now }
-    ensures rest { result.now ≡ drop (length text.now - length result.now) text.now }
-    ensures skipped { class ≡ Skipped → HasNoMoves (take (length text.now - length result.now) text.now) }
-    ensures spacing { class ≡ Skipped → AreSigns is_spacing (take (length text.now - length result.now) text.now) }
-    ensures words { class ≡ Words → AreWords (take (length text.now - length result.now) text.now) }
-    ensures turns { class ≡ NoBlanks → HasTurns text.now → IsTurnUpTo text.now (length text.now - length result.now) }
-    ensures unblank { class ≡ Skipped → slice_index result.now 0 ≡ 32 → ⊥ }
-    ensures letters { class ≡ Letters → (k : ℕ) → k < length text.now - length result.now → is_letter (slice_index text.now k) ≡ true }
-    ensures all_letters { class ≡ Letters → is_plain_letter (slice_index result.now 0) ≡ false }
-    ensures all_words { class ≡ Words → is_plain_letter (slice_index result.now 0) ≡ false }
+    ensures { IsBehind class text.now result.now }
 {
     // a loop for the one that is asked for most, which has only its test
     match class {
@@ -336,16 +307,7 @@ pub fn behind(text: &[u8], class: Class) -> &[u8]
 /// The same, to be compiled for one class.
 #[inline(always)]
 fn passed(text: &[u8], class: Class) -> &[u8]
-    ensures fits { length result.now ≤ length text.now }
-    ensures rest { result.now ≡ drop (length text.now - length result.now) text.now }
-    ensures skipped { class ≡ Skipped → HasNoMoves (take (length text.now - length result.now) text.now) }
-    ensures spacing { class ≡ Skipped → AreSigns is_spacing (take (length text.now - length result.now) text.now) }
-    ensures words { class ≡ Words → AreWords (take (length text.now - length result.now) text.now) }
-    ensures turns { class ≡ NoBlanks → HasTurns text.now → IsTurnUpTo text.now (length text.now - length result.now) }
-    ensures unblank { class ≡ Skipped → slice_index result.now 0 ≡ 32 → ⊥ }
-    ensures letters { class ≡ Letters → (k : ℕ) → k < length text.now - length result.now → is_letter (slice_index text.now k) ≡ true }
-    ensures all_letters { class ≡ Letters → is_plain_letter (slice_index result.now 0) ≡ false }
-    ensures all_words { class ≡ Words → is_plain_letter (slice_index result.now 0) ≡ false }
+    ensures { IsBehind class text.now result.now }
 {
     let mut rest = text;
     while !rest.is_empty() {

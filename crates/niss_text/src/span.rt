@@ -1,8 +1,9 @@
 //! Where the moves of a line begin and end: after words in front of them that are none, and before those after them.
 ghost use Rattle.std.specs.Prelude.{◌≡◌, ◌≤◌, ◌<◌, ℕ, List, length, drop, true, false};
-ghost use Rattle.niss_text.specs.Kept.{AreInNotation, begins_with_move, begins_with_turn, IsNoMove};
+ghost use Rattle.niss_text.specs.Kept.{AreInNotation, AreStopped, begins_with_move, begins_with_turn, IsNoMove};
 ghost use Rattle.niss_text.specs.declared.word.Word.TheVariants.{Move, Other};
 
+use crate::full_stop::stop_after_moves;
 use crate::sign::from_place;
 use crate::single::Single;
 use crate::word::{Word, are_plain_moves, first_word};
@@ -259,14 +260,24 @@ impl Frame {
     }
 }
 
-/// Where the moves of a line are, which has no comment.
+/// Where the moves of a line are, which has no comment. A full stop right after several is none of them.
 pub fn span_of(line: &[u8]) -> Span
     ensures fits { result.end ≤ length line.now }
     ensures name { result.name ≤ length line.now }
     ensures tail { result.end < length line.now → begins_with_turn (drop result.end line.now) ≡ false }
     ensures plain { AreInNotation line.now → (result.is_moves ≡ true) × ((result.begin ≡ 0) × (result.end ≡ length line.now)) }
     ensures front { begins_with_move line.now ≡ true → result.begin ≡ 0 }
+    ensures stopped { (count : ℕ) → AreStopped line.now count →
+        (result.is_moves ≡ true) × ((result.begin ≡ 0) × (result.end ≡ count)) }
 {
+    if let Some(end) = stop_after_moves(line) {
+        return Span {
+            is_moves: true,
+            begin: 0,
+            end,
+            name: line.len(),
+        };
+    }
     if are_plain_moves(line) {
         return Span {
             is_moves: true,

@@ -2,7 +2,7 @@ use Rattle.std.proofs.Common.{◌≡◌, ℕ, ◌+◌, length, take, slice_range
 use Rattle.niss_text.specs.Groups.{AreBelow}
 use Rattle.niss_text.specs.Lines.{AreNumbered}
 use Rattle.std.proofs.lemmas.Grind.{common_steps}
-use Rattle.niss_text.proofs.LineLemmas.{fewer_kept, more_behind}
+use Rattle.niss_text.proofs.LineLemmas.{fewer_kept, more_behind, numbered_from_first}
 use Rattle.niss_text.proofs.PassedLemmas.{remain_none}
 use Rattle.niss_text.proofs.attempts.put_attempts.Goals as goal
 
@@ -29,17 +29,19 @@ loop-at-preserved c =
           let one : c.first_attempt-attempt.result.number + 1 ≡ c.saturating_add-attempts.result =
           omega (arith, own, c.saturating_add-attempts.ensures, inv.numbered low, told.further.0, told.further.1) in
           subst (λ (n : ℕ). AreNumbered 0 (take c.put_attempt-more.result.0 c.put_attempt-more.new.lines) n) one
-          (told.numbers (subst (λ (n : ℕ). AreNumbered 0 (take c.loop-at.count c.loop-at.lines) n) (sym own)
-          (inv.numbers begun low (omega (arith, room, same, told.more.0)))) room);
+          (numbered_from_first c.loop-at.lines c.put_attempt-more.new.lines c.loop-at.count c.put_attempt-more.result.0 c.first_attempt-attempt.result.number
+          (c.first_attempt-attempt.result.number + 1) (λ first. told.numbers 0 0 (omega arith) first room)
+          (subst (λ (n : ℕ). AreNumbered 0 (take c.loop-at.count c.loop-at.lines) n) (sym own)
+          (inv.numbers begun low (omega (arith, room, same, told.more.0)))));
       numbered_on = λ low. omega (arith, c.saturating_add-attempts.ensures, inv.numbered_on low, told.further.0);
-      numbers_on = λ seen first low begun few room.
+      numbers_on = λ few seen first low begun room.
           let own : c.first_attempt-attempt.result.number ≡ c.loop-at.attempts = c.first_attempt-attempt.ensures.number in
           let one : c.first_attempt-attempt.result.number + 1 ≡ c.saturating_add-attempts.result =
           omega (arith, own, c.saturating_add-attempts.ensures, inv.numbered_on few, told.further.0, told.further.1) in
           subst (λ (n : ℕ). AreNumbered seen (slice_range c.put_attempt-more.new.lines first c.put_attempt-more.result.0) n) one
-          (told.numbers_on seen first (omega (arith, low, inv.more))
+          (told.numbers seen first (omega (arith, low, inv.more))
           (subst (λ (n : ℕ). AreNumbered seen (slice_range c.loop-at.lines first c.loop-at.count) n) (sym own)
-          (inv.numbers_on seen first low begun few (omega (arith, room, same, told.more.0)))) room);
+          (inv.numbers_on few seen first low begun (omega (arith, room, same, told.more.0)))) room);
       begins = λ begun first. told.begins
           (λ fits. inv.covers (begun (omega (arith, fits, inv.more, c.loop-at.auto.lines))) fits) (inv.begins begun first);
       in_order = λ begun low first.

@@ -1,5 +1,5 @@
 use Rattle.std.proofs.Common.{◌≡◌, ℕ, ◌+◌, ◌-◌, ◌≤◌, List, length, take, drop, slice_range}
-use Rattle.niss_text.specs.Lines.{Covers, Counts, TakesBy, Remain, AreNumbered, Begins, BeginNumbered}
+use Rattle.niss_text.specs.Lines.{Covers, Counts, TakesBy, Remain, AreNumbered, NumbersOn, Begins, BeginNumbered}
 use Rattle.niss_text.specs.Groups.{AreGrouped, AreBelow}
 use Rattle.niss_text.proofs.attempts.put_attempts.Given as goal
 
@@ -20,8 +20,7 @@ invariant-loop-at l = record {
   numbers : AreNumbered 0 (take l.fn.so_far.lines l.initial.lines) l.fn.so_far.attempts → l.fn.so_far.attempts ≤ l.fn.so_far.at → l.count ≤ length l.lines →
       AreNumbered 0 (take l.count l.lines) l.attempts;
   numbered_on : l.fn.so_far.attempts ≤ l.fn.so_far.at + 1 → l.attempts ≤ l.at + 1;
-  numbers_on : (seen first : ℕ) → first ≤ l.fn.so_far.lines → AreNumbered seen (slice_range l.initial.lines first l.fn.so_far.lines) l.fn.so_far.attempts →
-      l.fn.so_far.attempts ≤ l.fn.so_far.at + 1 → l.count ≤ length l.lines → AreNumbered seen (slice_range l.lines first l.count) l.attempts;
+  numbers_on : l.fn.so_far.attempts ≤ l.fn.so_far.at + 1 → NumbersOn l.initial.lines l.lines l.fn.so_far.lines l.count l.fn.so_far.attempts l.attempts;
   begins : (l.fn.so_far.lines ≤ length l.initial.lines → Covers l.text 0 (take l.fn.so_far.lines l.initial.lines) l.fn.so_far.at) →
       Begins l.text (take l.fn.so_far.lines l.initial.lines) → Begins l.text (take l.count l.lines);
   in_order : (l.fn.so_far.lines ≤ length l.initial.lines → AreNumbered 0 (take l.fn.so_far.lines l.initial.lines) l.fn.so_far.attempts) →

@@ -15,4 +15,4 @@ pub returns-clause-first : goal.returns-clause-first
 returns-clause-first c = λ room.
     one_attempt c.args.lines.now c.put_attempt-count.new.lines c.args.so_far.lines c.put_attempt-count.result.0 c.solution_alone-attempt.result.number
     c.solution_alone-attempt.ensures.first
-    (λ begun. c.put_attempt-count.ensures.numbers_on 0 c.args.so_far.lines (omega arith) begun room)
+    (λ begun. c.put_attempt-count.ensures.numbers 0 c.args.so_far.lines (omega arith) begun room)

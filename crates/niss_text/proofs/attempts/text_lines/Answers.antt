@@ -3,7 +3,7 @@ use Rattle.std.proofs.lemmas.List.Elements.{All-nil}
 use Rattle.niss_text.specs.Groups.{AreGrouped, AreBelow}
 use Rattle.niss_text.proofs.GroupedLines.{grouped_none}
 use Rattle.niss_text.specs.Lines.{Covers, Counts, AreNumbered}
-use Rattle.niss_text.proofs.LineLemmas.{covers_none, counts_none, numbered_none}
+use Rattle.niss_text.proofs.LineLemmas.{covers_none, counts_none, numbered_from_first, numbered_none}
 use Rattle.niss_text.specs.declared.text_line.TextLine.{TextLine}
 use Rattle.niss_text.proofs.attempts.text_lines.Goals as goal
 
@@ -40,7 +40,8 @@ returns-clause-numbers c = λ room.
     let begin : 0 ≡ c.nothing.result.attempts = sym c.nothing.ensures.1.1 in
     let begun : AreNumbered 0 (take c.nothing.result.lines lines) c.nothing.result.attempts =
     subst (λ (n : ℕ). AreNumbered 0 (take n lines) c.nothing.result.attempts) none (subst (λ (n : ℕ). AreNumbered 0 (take 0 lines) n) begin numbered_none) in
-    told.numbers begun (omega (arith, begin)) (omega (arith, room, same))
+    numbered_from_first lines c.put_attempts-read.new.lines c.nothing.result.lines c.put_attempts-read.result.lines c.nothing.result.attempts
+    c.put_attempts-read.result.attempts (λ first. told.numbers (omega (arith, begin)) 0 0 (omega arith) first (omega (arith, room, same))) begun
 
 pub returns-clause-begins : goal.returns-clause-begins
 returns-clause-begins c =

@@ -1,9 +1,10 @@
-use Rattle.std.proofs.Common.{◌≡◌, ℕ, List, ◌+◌, ◌-◌, ◌≤◌, inl, inr, length, drop, true, false, ap, ◌∙◌, subst, arith}
+use Rattle.std.proofs.Common.{◌≡◌, ℕ, List, ◌+◌, ◌-◌, ◌≤◌, inl, inr, length, drop, true, false, refl, ap, ◌∙◌, subst, arith}
 use Rattle.std.proofs.lemmas.Bool.{cases_lt}
 use Rattle.niss_text.specs.Kept.{begins_with_move, begins_with_turn, IsNoMove}
 use Rattle.niss_text.specs.declared.word.Word.TheVariants.{Move, Other}
 use Rattle.niss_text.proofs.KeptLemmas.{passed_so_far}
 use Rattle.niss_text.proofs.LayerLemmas.{turn_by_word}
+use Rattle.niss_text.proofs.StopLemmas.{plain_stop, stop_turn}
 use Rattle.niss_text.proofs.span.span_of.Goals as goal
 
 pub loop-rest-preserved : goal.loop-rest-preserved
@@ -37,3 +38,18 @@ loop-rest-preserved c =
             (moved.0, omega (arith, moved.1, inv.lead, top))
       ];
     }
+
+pub returns-in-Some-clause-tail : goal.returns-in-Some-clause-tail
+returns-in-Some-clause-tail c = λ lt. stop_turn c.args.line.now c.in-Some.end c.in-Some.ensures.stop
+
+pub returns-in-Some-clause-plain : goal.returns-in-Some-clause-plain
+returns-in-Some-clause-plain c = λ plain. absurd (plain_stop c.args.line.now c.in-Some.end plain c.in-Some.ensures.fits c.in-Some.ensures.stop)
+
+pub returns-in-Some-clause-stopped : goal.returns-in-Some-clause-stopped
+returns-in-Some-clause-stopped c = λ count is. (refl, (refl, c.in-Some.ensures.all count is))
+
+pub returns-then-are_plain_moves-clause-stopped : goal.returns-then-are_plain_moves-clause-stopped
+returns-then-are_plain_moves-clause-stopped c = λ count is. absurd (c.in_default.ensures.all count is)
+
+pub returns-clause-stopped : goal.returns-clause-stopped
+returns-clause-stopped c = λ count is. absurd (c.in_default.ensures.all count is)

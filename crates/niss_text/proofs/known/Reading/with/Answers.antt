@@ -109,7 +109,7 @@ returns-then-self-clause-told c = λ most body have far parts_room room.
     (are_in_attempts c.put_solution-solution.new.lines c.put_attempts-read.new.lines n c.put_solution-solution.result.lines c.put_attempts-read.result.lines
     c.put_solution-solution.result.attempts c.put_solution-solution.result.at c.put_attempts-read.result.attempts solution.more read.more read.kept
     (solution.first (omega (arith, room, read.more, c.put_attempts-read.auto.lines))) solution.one
-    (λ begun few. read.numbers_on 1 c.put_solution-solution.result.lines (omega arith) begun few room)))
+    (λ begun few. read.numbers few 1 c.put_solution-solution.result.lines (omega arith) begun room)))
 
 pub returns-else-self-clause-takes : goal.returns-else-self-clause-takes
 returns-else-self-clause-takes c = λ most body far room.
@@ -168,4 +168,4 @@ returns-else-self-clause-told c = λ most body have far parts_room room.
     (are_in_attempts c.put_solution-solution.new.lines c.put_attempts-read.new.lines n c.put_solution-solution.result.lines c.put_attempts-read.result.lines
     c.put_solution-solution.result.attempts c.put_solution-solution.result.at c.put_attempts-read.result.attempts solution.more read.more read.kept
     (solution.first (omega (arith, room, read.more, c.put_attempts-read.auto.lines))) solution.one
-    (λ begun few. read.numbers_on 1 c.put_solution-solution.result.lines (omega arith) begun few room)))
+    (λ begun few. read.numbers few 1 c.put_solution-solution.result.lines (omega arith) begun room)))
