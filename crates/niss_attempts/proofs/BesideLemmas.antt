@@ -10,7 +10,7 @@ unfoldable use Rattle.niss_text.specs.Moves.{most_bytes}
 use Rattle.niss_text.specs.declared.moves.MovesOf.TheVariants.{Solution, EachStep}
 use Rattle.niss_text.specs.declared.text_line.TextLine.{TextLine}
 use Rattle.niss_attempts.specs.Doubts.{AreWritten, doubt}
-use Rattle.niss_attempts.specs.Beside.{IsDoubtBeside, IsFound, IsLongSeen, IsOfLong, IsOfSteps, IsSeen, turns_of, begins_apart, is_long_other}
+use Rattle.niss_attempts.specs.Beside.{IsDoubtBeside, IsFoundBeside, IsLongSeen, IsOfLong, IsOfSteps, IsSeen, turns_of, begins_apart, is_long_other}
 use Rattle.niss_lines.specs.LineFacts.{IsReadAs}
 use Rattle.niss_attempts.specs.declared.doubts.Doubt.{Doubt}
 use Rattle.niss_attempts.specs.declared.doubts.Reason.TheVariants.{AnotherAttempt, SeveralSolutions}
@@ -19,9 +19,9 @@ use Rattle.niss_attempts.specs.declared.doubts.beside.Seen.{Seen}
 
 -- what is found with a step before the others
 pub found_with : (text : List ℕ) (lines : List TextLine) (scramble : Moves) (solution : List Turn) (it result : Beside) (line : TextLine) (seen : Seen) →
-    IsFound text lines scramble solution it → is_wanted EachStep line ≡ true → IsSeen (is_long_other line) text line scramble solution seen →
+    IsFoundBeside text lines scramble solution it → is_wanted EachStep line ≡ true → IsSeen (is_long_other line) text line scramble solution seen →
     result.begins_apart ≡ seen.is_apart → result.another ≡ (if seen.is_apart && it.begins_apart then Some (doubt AnotherAttempt line.moves) else it.another) →
-    result.slip ≡ (if seen.is_slip then Some (doubt SeveralSolutions line.moves) else it.slip) → IsFound text (line ∷ lines) scramble solution result
+    result.slip ≡ (if seen.is_slip then Some (doubt SeveralSolutions line.moves) else it.slip) → IsFoundBeside text (line ∷ lines) scramble solution result
 found_with text lines scramble solution it result line seen found wanted is_seen begins another slip = record {
   steps = record { line = line; seen = seen } ∷ found.steps;
   are_lines = ap (λ xs. line ∷ xs) found.are_lines ∙ sym (ap (λ b. cond b (line ∷ filter (is_wanted EachStep) lines) (filter (is_wanted EachStep) lines)) wanted);
@@ -41,7 +41,7 @@ seen_long text line scramble solution seen is_long it = subst (λ b. IsSeen b te
 pub record IsFoundBelow (text : List ℕ) (lines rest : List TextLine) (scramble : Moves) (solution : List Turn) (it : Beside) : Type 0 where
   pub below : List TextLine
   pub whole : rest ++ below ≡ lines
-  pub is_found : IsFound text below scramble solution it
+  pub is_found : IsFoundBeside text below scramble solution it
 
 -- a line that passes from those above to those below
 pub one_above : (lines rest above below : List TextLine) (line : TextLine) → rest ≡ above ++ line ∷ [] → rest ++ below ≡ lines → above ++ line ∷ below ≡ lines

@@ -11,7 +11,7 @@ use Rattle.niss_shell.specs.Words.{most_bytes}
 use Rattle.niss_lines.specs.LineFacts.{check_of, check_read, forms_of, unchecked}
 use Rattle.niss_lines.specs.declared.answer.Status.TheVariants.{Stopped}
 use Rattle.niss_attempts.specs.declared.attempts.judged.Judged.{Judged}
-use Rattle.niss_attempts.specs.Attempts.{Elsewhere, IsOfSome, IsTried, is_open, most_tried, scramble_of, solves_known, solves_some}
+use Rattle.niss_attempts.specs.Attempts.{Elsewhere, IsOfSome, IsTriedElsewhere, is_open, most_tried, scramble_of, solves_known, solves_some}
 
 -- A line that is too long, or has a fault, solves no scramble.
 none_of : (test : ℕ → Bool) (n first : ℕ) → ((k : ℕ) → test k ≡ false) → list_any test (range_with_len first n) ≡ false
@@ -53,6 +53,6 @@ faulty_solves_none scrambles ends line f is =
 
 -- what is told if another scramble may be meant
 pub tried_open : (text : List ℕ) (own : List TextLine) (others : Elsewhere) (judged it : Judged) (b : Bool) → b ≡ is_open judged → b ≡ true →
-    IsOfSome text own others judged it → IsTried (is_open judged) text own others judged it
-tried_open text own others judged it true same is some = subst (λ (v : Bool). IsTried v text own others judged it) same some
+    IsOfSome text own others judged it → IsTriedElsewhere (is_open judged) text own others judged it
+tried_open text own others judged it true same is some = subst (λ (v : Bool). IsTriedElsewhere v text own others judged it) same some
 tried_open text own others judged it false same is some = absurd (cc is)

@@ -1,7 +1,7 @@
 -- What is told of attempts that were checked.
-use Rattle.std.specs.Prelude.{◌≡◌, ℕ, zero, suc, ◌+◌, ◌-◌, ◌<◌, ◌==◌, if◌then◌else◌, nat_lt, Bool, true, false, not, ◌&&◌, ⊤, ◌≤◌, ◌↔◌, IsTrue, Ok, min, Option, None, Some, is_some, Result, List, [], ◌∷◌, length, drop, get_or, slice_range}
+use Rattle.std.specs.Prelude.{◌≡◌, ℕ, zero, suc, ◌+◌, ◌-◌, ◌<◌, ◌==◌, if◌then◌else◌, nat_lt, Bool, true, false, not, ◌&&◌, ⊤, ◌≤◌, ◌↔◌, IsTrue, Ok, min, Option, None, Some, is_some, Result, List, [], ◌∷◌, find, length, drop, get_or, slice_range}
 use Rattle.std.specs.List.{list_any, range_with_len}
-use Rattle.std.specs.Option.{option_or}
+use Rattle.std.specs.Option.{option_map, option_or}
 use Rattle.niss_text.specs.Moves.{is_wanted}
 use Rattle.niss_text.specs.declared.moves.MovesOf.TheVariants.{Scramble, Solution, EachStep}
 use Rattle.niss_text.specs.declared.text_line.TextLine.{TextLine}
@@ -17,7 +17,7 @@ use Rattle.niss_attempts.specs.declared.attempts.judged.Judged.{Judged}
 use Rattle.niss_attempts.specs.declared.attempts.Outcome.{Outcome}
 use Rattle.niss_attempts.specs.declared.attempts.Outcome.TheVariants.{AtFault, Solved, Unsolved}
 use Rattle.niss_attempts.specs.declared.attempts.runs.Placed.{Placed}
-use Rattle.niss_attempts.specs.declared.attempts.known_parts.Found.{Found}
+use Rattle.niss_attempts.specs.declared.attempts.known_parts.WrittenScramble.{WrittenScramble}
 use Rattle.niss_attempts.specs.declared.attempts.known_parts.Known.{Known}
 use Rattle.niss_text.specs.declared.known.KnownPart.{KnownPart}
 use Rattle.niss_moves.specs.Line.{Moves}
@@ -37,14 +37,11 @@ use Rattle.niss_attempts.specs.declared.attempts.runs.Run.{Run}
 
 -- what makes one doubt the first of some lines that is in doubt
 abbrev pub first_doubt : List TextLine → Option Doubt
-first_doubt [] = None
-first_doubt (line ∷ lines) = if line.doubt == 0 then first_doubt lines else Some (doubt (OfLine line.doubt) line.doubt_at)
+first_doubt lines = option_map (λ line. doubt (OfLine line.doubt) line.doubt_at) (find (λ line. not (line.doubt == 0)) lines)
 
 -- the doubt of the first of them that may be of a scramble
 abbrev pub first_stray : List TextLine → Option Doubt
-first_stray [] = None
-first_stray (line ∷ lines) =
-    if line.doubt == number_of StepOrScramble then Some (doubt StepOrScramble line.doubt_at) else first_stray lines
+first_stray lines = option_map (λ line. doubt StepOrScramble line.doubt_at) (find (λ line. line.doubt == number_of StepOrScramble) lines)
 
 -- a scramble whose bytes have places in the text is solved by itself
 abbrev pub is_solved : (scramble places : List ℕ) → Bool
@@ -194,7 +191,7 @@ pub record IsSameCube (one other : List ℕ) : Type 0 where
   pub same : line_text Print moves ≡ line_text Print other_moves
 
 -- The scramble that stands in a part whose scramble is known: whether it makes the same cube, and its first place.
-pub record IsFound (text : List ℕ) (lines : List TextLine) (scramble : List ℕ) (it : Found) : Type 0 where
+pub record IsWrittenScramble (text : List ℕ) (lines : List TextLine) (scramble : List ℕ) (it : WrittenScramble) : Type 0 where
   pub bytes : List ℕ
   pub places : List ℕ
   pub are_moves : AreWritten text Scramble lines bytes places
@@ -250,31 +247,31 @@ pub record IsOfSome (text : List ℕ) (own : List TextLine) (others : Elsewhere)
   pub it_is : it ≡ or_which (solves_some others.scrambles others.ends solution) others.begin judged
 
 -- The known scrambles are tried if another one may be meant.
-abbrev pub IsTried : (is_open : Bool) → (text : List ℕ) → (own : List TextLine) → Elsewhere → (judged it : Judged) → Type 0
-IsTried true text own others judged it = IsOfSome text own others judged it
-IsTried false text own others judged it = it ≡ judged
+abbrev pub IsTriedElsewhere : (is_open : Bool) → (text : List ℕ) → (own : List TextLine) → Elsewhere → (judged it : Judged) → Type 0
+IsTriedElsewhere true text own others judged it = IsOfSome text own others judged it
+IsTriedElsewhere false text own others judged it = it ≡ judged
 
 -- A scramble is solved, or not, by lines of its own, with this doubt of the reading; or they may solve another one.
 pub record IsAlone (text : List ℕ) (own : List TextLine) (lines : Run) (scramble : List ℕ) (others : Elsewhere) (read : Option Doubt) (it : Placed) : Type 0 where
   pub judged : Judged
   pub lines_are : it.lines ≡ lines
   pub is_checked : IsChecked text own scramble [] read judged
-  pub tried : IsTried (is_open judged) text own others judged it.judged
+  pub tried : IsTriedElsewhere (is_open judged) text own others judged it.judged
 
 -- An attempt among other lines is meant, which has the only solution, and the same scramble.
-abbrev pub is_meant : (is_only : Bool) → Found → (own : List TextLine) → Bool
-is_meant is_only found own = is_only && (found.is_same && not (list_any (is_wanted Solution) own))
+abbrev pub is_meant : (is_only : Bool) → WrittenScramble → (own : List TextLine) → Bool
+is_meant is_only written own = is_only && (written.is_same && not (list_any (is_wanted Solution) own))
 
-abbrev pub IsMeant : Bool → List ℕ → (own beside : List TextLine) → (lines run : Run) → (scramble : List ℕ) → Elsewhere → Found → Placed → Type 0
-IsMeant true text own beside lines run scramble others found it = IsOfRun text beside run it
-IsMeant false text own beside lines run scramble others found it = IsAlone text own lines scramble others (Some (doubt AnotherScramble found.at)) it
+abbrev pub IsMeant : Bool → List ℕ → (own beside : List TextLine) → (lines run : Run) → (scramble : List ℕ) → Elsewhere → WrittenScramble → Placed → Type 0
+IsMeant true text own beside lines run scramble others written it = IsOfRun text beside run it
+IsMeant false text own beside lines run scramble others written it = IsAlone text own lines scramble others (Some (doubt AnotherScramble written.at)) it
 
 -- What is told of a known scramble by lines of its own, and an attempt among others that has a scramble, the only one or not.
 pub record IsBeside (text : List ℕ) (own beside : List TextLine) (lines : Run) (scramble : List ℕ) (others : Elsewhere) (run : Run) (is_only : Bool) (it : Placed)
     : Type 0 where
-  pub found : Found
-  pub is_found : IsFound text (slice_range beside run.first run.end) scramble found
-  pub which : IsMeant (is_meant is_only found own) text own beside lines run scramble others found it
+  pub written : WrittenScramble
+  pub is_written : IsWrittenScramble text (slice_range beside run.first run.end) scramble written
+  pub which : IsMeant (is_meant is_only written own) text own beside lines run scramble others written it
 
 abbrev pub has_none : List Run → Bool
 has_none [] = true

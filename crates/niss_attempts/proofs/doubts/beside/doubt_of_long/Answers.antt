@@ -1,6 +1,6 @@
 use Rattle.std.proofs.Common.{◌∙◌, None, take, subst, List}
 use Rattle.niss_moves.specs.declared.turn.Turn.{Turn}
-use Rattle.niss_attempts.specs.Beside.{IsFound}
+use Rattle.niss_attempts.specs.Beside.{IsFoundBeside}
 use Rattle.niss_attempts.proofs.BesideLemmas.{of_read, of_unread}
 use Rattle.niss_attempts.proofs.doubts.beside.doubt_of_long.Goals as goal
 
@@ -19,7 +19,7 @@ returns-clause-is c =
     of_read c.args.text.now c.args.lines.now c.args.scramble.now (take c.in_ok-count.count c.moves_of.new.out) (take c.in_ok-count.count c.moves_of.new.places)
     c.doubt.result c.in-Some.scramble.now c.in-Some-moves_by.solution.now c.in_ok-count.ensures.are c.in-Some.ensures c.in-Some-moves_by.ensures (record {
       it = c.in_ok-found.found;
-      is_found = subst (λ (turns : List Turn). IsFound c.args.text.now c.args.lines.now c.in-Some.scramble.now turns c.in_ok-found.found) (c.as_slice.ensures.value ∙ c.turns_of-turns.ensures)
+      is_found = subst (λ (turns : List Turn). IsFoundBeside c.args.text.now c.args.lines.now c.in-Some.scramble.now turns c.in_ok-found.found) (c.as_slice.ensures.value ∙ c.turns_of-turns.ensures)
           c.in_ok-found.ensures.is;
       told_is = c.doubt.ensures;
     })
