@@ -1,5 +1,5 @@
 -- What is found in the steps beside a solution, one step after another.
-use Rattle.std.proofs.Common.{◌≡◌, ◌∙◌, ◌≤◌, ◌&&◌, ℕ, true, false, cond, Option, None, Some, List, [], ◌∷◌, ◌++◌, sym, ap, subst, if◌then◌else◌, arith}
+use Rattle.std.proofs.Common.{◌≡◌, ◌∙◌, ◌≤◌, ◌&&◌, ℕ, true, false, cond, Option, None, Some, List, [], ◌∷◌, ◌++◌, refl, sym, ap, subst, if◌then◌else◌, arith}
 use Rattle.std.specs.List.{filter, list_any}
 use Rattle.std.proofs.lemmas.List.Elements.{All-cons}
 use Rattle.std.proofs.lemmas.List.{append_assoc}
@@ -58,11 +58,16 @@ pub most_of_one : (lines rest above below : List TextLine) (line : TextLine) →
 most_of_one lines rest above below line is whole =
     subst (λ xs. most_bytes (line ∷ []) ≤ most_bytes xs) (one_above lines rest above below line is whole) (most_joined above line below)
 
--- what is told of what can't be read, which nothing is that solves
-pub of_unread : (text : List ℕ) (lines : List TextLine) (scramble solution places : List ℕ) (told : Option Doubt) → AreWritten text Solution lines solution places →
-    ((given moves : Moves) → IsReadAs scramble given → IsReadAs solution moves → ⊥) → IsOfLong text lines scramble told
-of_unread text lines scramble solution places told is_solution not =
-    record { solution = solution; places = places; is_solution = is_solution; of_steps = λ given moves is_given are_moves. absurd (not given moves is_given are_moves) }
+-- what is told of what can't be read
+pub of_unread : (text : List ℕ) (lines : List TextLine) (scramble solution places : List ℕ) → AreWritten text Solution lines solution places →
+    ((given moves : Moves) → IsReadAs scramble given → IsReadAs solution moves → ⊥) → IsOfLong text lines scramble None
+of_unread text lines scramble solution places is_solution not = record {
+  solution = solution;
+  places = places;
+  is_solution = is_solution;
+  of_steps = λ given moves is_given are_moves. absurd (not given moves is_given are_moves);
+  of_unread = λ unread. refl;
+}
 
 same_moves : (one other : Moves) (line : List ℕ) → IsReadAs line one → IsReadAs line other → one ≡ other
 same_moves one other line is_one is_other = grind (arith, is_one.1, is_other.1)
@@ -77,6 +82,7 @@ of_read text lines scramble solution places told given moves is_solution is_give
   of_steps = λ other_given other_moves is_other are_other.
       subst (λ (these : Moves). IsOfSteps text lines these (turns_of other_moves) told) (same_moves given other_given scramble is_given is_other)
       (subst (λ (these : Moves). IsOfSteps text lines given (turns_of these) told) (same_moves moves other_moves solution are_moves are_other) it);
+  of_unread = λ not. absurd (not given moves is_given are_moves);
 }
 
 -- what is told without any long step

@@ -108,13 +108,15 @@ pub record IsOfSteps (text : List ℕ) (lines : List TextLine) (scramble : Moves
   pub is_found : IsFoundBeside text lines scramble solution it
   pub told_is : told ≡ option_or it.another it.slip
 
--- It is told by scramble and solution as they are read, which those of an attempt are that is solved.
+-- It is told by scramble and solution as they are read, which those of an attempt are that is solved. Of what can't be read
+-- there is none.
 pub record IsOfLong (text : List ℕ) (lines : List TextLine) (scramble : List ℕ) (told : Option Doubt) : Type 0 where
   pub solution : List ℕ
   pub places : List ℕ
   pub is_solution : AreWritten text Solution lines solution places
   pub of_steps : (given moves : Moves) → IsReadAs scramble given → IsReadAs solution moves →
       IsOfSteps text lines given (turns_of moves) told
+  pub of_unread : ((given moves : Moves) → IsReadAs scramble given → IsReadAs solution moves → ⊥) → told ≡ None
 
 -- What is solved is in doubt by its steps if one of them is long and not of the solution.
 abbrev pub IsDoubtBeside : (has_long : Bool) → (text : List ℕ) (lines : List TextLine) (scramble : List ℕ) (told : Option Doubt) → Type 0

@@ -5,7 +5,7 @@ ghost use Rattle.niss_shell.specs.Output.{line_text};
 ghost use Rattle.niss_shell.specs.declared.command.Rewriting.TheVariants.{Print};
 ghost use Rattle.niss_attempts.specs.Attempts.{IsSameCube, IsWrittenScramble, IsAlone, IsMeant, IsBeside, IsOfKnown, scramble_of, begin_of, below_or_none};
 ghost use Rattle.niss_lines.specs.LineFacts.{IsReadAs};
-ghost use Rattle.niss_attempts.specs.Attempts.{IsTriedElsewhere, attempts_from, elsewhere, is_open, solves_known, solves_some};
+ghost use Rattle.niss_attempts.specs.Attempts.{IsTriedElsewhere, asked, attempts_from, is_open, solves_known, solves_some};
 ghost use Rattle.niss_attempts.specs.Doubts.{IsOkIfRoom, IsOkIfRoomForEither};
 
 use crate::attempts::judged::Judged;
@@ -164,7 +164,7 @@ pub struct Solution<'a> {
 impl Solution<'_> {
     /// What is said of it once it was judged by its scramble: if another one may be meant, whether it solves one.
     fn tried(&self, judged: Judged, out: &mut [u8], places: &mut [u64]) -> Result<Judged, NoRoom>
-        ensures is { IfOk result (λ it. IsTriedElsewhere (is_open judged) self.now.text.now self.now.own.now (elsewhere self.now.known self.now.begin) judged it) }
+        ensures is { IfOk result (λ it. IsTriedElsewhere (is_open judged) (asked self.now) judged it) }
         ensures room { IsOkIfRoom (most_bytes self.now.own.now) out.old places.old result }
     {
         if !judged.is_open() {
@@ -187,7 +187,7 @@ impl Solution<'_> {
         out: &mut [u8],
         places: &mut [u64],
     ) -> Result<Placed, NoRoom>
-        ensures is { IfOk result (λ it. IsAlone self.now.text.now self.now.own.now self.now.lines self.now.scramble.now (elsewhere self.now.known self.now.begin) doubt it) }
+        ensures is { IfOk result (λ it. IsAlone (asked self.now) doubt it) }
         ensures room { IsOkIfRoom (most_bytes self.now.own.now) out.old places.old result }
     {
         let given = Given {
@@ -212,7 +212,7 @@ impl Solution<'_> {
         out: &mut [u8],
         places: &mut [u64],
     ) -> Result<Placed, NoRoom>
-        ensures is { IfOk result (λ it. IsMeant is_meant self.now.text.now self.now.own.now self.now.others.now self.now.lines run self.now.scramble.now (elsewhere self.now.known self.now.begin) written it) }
+        ensures is { IfOk result (λ it. IsMeant is_meant (asked self.now) run written it) }
         ensures room { IsOkIfRoomForEither self.now.own.now (slice_range self.now.others.now run.first run.end) out.old places.old result }
     {
         if !is_meant {
@@ -235,7 +235,7 @@ impl Solution<'_> {
         out: &mut [u8],
         places: &mut [u64],
     ) -> Result<Placed, NoRoom>
-        ensures is { IfOk result (λ it. IsBeside self.now.text.now self.now.own.now self.now.others.now self.now.lines self.now.scramble.now (elsewhere self.now.known self.now.begin) run is_only it) }
+        ensures is { IfOk result (λ it. IsBeside (asked self.now) run is_only it) }
         ensures room { IsOkIfRoomForEither self.now.own.now (slice_range self.now.others.now run.first run.end) out.old places.old result }
     {
         let lines = stretch(self.others, run.first, run.end);
@@ -253,8 +253,7 @@ impl Solution<'_> {
         places: &mut [u64],
     ) -> Result<Placed, NoRoom>
         requires { from ≤ length self.now.others.now }
-        ensures is { IfOk result (λ it. IsOfKnown self.now.text.now self.now.own.now self.now.others.now self.now.lines self.now.scramble.now
-            (elsewhere self.now.known self.now.begin) (attempts_from from self.now.others.now) it) }
+        ensures is { IfOk result (λ it. IsOfKnown (asked self.now) (attempts_from from self.now.others.now) it) }
         ensures room { IsOkIfRoomForEither self.now.own.now self.now.others.now out.old places.old result }
     {
         match next_run(self.others, from) {

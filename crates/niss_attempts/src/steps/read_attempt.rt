@@ -25,7 +25,7 @@ pub enum Unread {
     Faulty,
 }
 
-/// A scramble and the steps after it that are looked at, with what `WholeSteps` lends.
+/// A scramble that was read, the steps after it that are looked at, and what was worked out of them once.
 #[derive(Drop)]
 pub struct ReadAttempt<'a> {
     pub scramble: &'a Niss,
@@ -51,7 +51,8 @@ fn are_too_long(scramble: &[u8], end: usize) -> bool
 }
 
 impl<'a> ReadAttempt<'a> {
-    /// Has a new reader read a scramble, and works out what is asked of all steps after it.
+    /// Has a new reader read a scramble, and works out where the first steps after it begin and end, and what they do to the
+    /// corners.
     pub fn read(
         reader: &'a mut LineReader,
         scramble: &[u8],
@@ -79,7 +80,7 @@ impl<'a> ReadAttempt<'a> {
         })
     }
 
-    /// All its steps.
+    /// All its steps, as they are asked of.
     pub fn whole(&self) -> WholeSteps<'_>
         ensures { (scramble steps : List ℕ) → IsReadAttempt scramble steps self.now → AreReadWhole scramble steps result }
     {
