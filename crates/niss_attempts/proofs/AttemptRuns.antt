@@ -76,7 +76,7 @@ step lines own runs first end b are has long rest =
     ∙ ap (λ (v : List (List TextLine)). cond {A = List Run} b (record { first = first; end = end } ∷ with_scramble end v) (with_scramble end v)) rest
 
 -- the first attempt from a line on, and the others
-pub run_next : (lines others : List TextLine) (line : TextLine) (first n : ℕ) (b : Bool) → drop first lines ≡ line ∷ others → Alike line.attempt n others →
+run_next : (lines others : List TextLine) (line : TextLine) (first n : ℕ) (b : Bool) → drop first lines ≡ line ∷ others → Alike line.attempt n others →
     n ≤ length others → list_any (is_wanted Scramble) (slice_range lines first (first + 1 + n)) ≡ b →
     attempts_from first lines ≡ cond b (record { first = first; end = first + 1 + n } ∷ attempts_from (first + 1 + n) lines) (attempts_from (first + 1 + n) lines)
 run_next lines others line first n b is are few has =
@@ -91,6 +91,16 @@ run_next lines others line first n b is are few has =
 -- the lines from one on are all after it
 pub lines_from : (lines : List TextLine) (first : ℕ) → take (length lines - first) (drop first lines) ≡ drop first lines
 lines_from lines first = let long = length-drop first lines in take_all (length lines - first) (drop first lines) (omega (arith, long))
+
+-- the same of the lines from one on, and where it ends
+pub run_from : (lines others : List TextLine) (line : TextLine) (first n : ℕ) (b : Bool) → take (length lines - first) (drop first lines) ≡ line ∷ others →
+    Alike line.attempt n others → n ≤ length others → list_any (is_wanted Scramble) (slice_range lines first (first + 1 + n)) ≡ b →
+    (first + 1 + n ≤ length lines)
+    × (attempts_from first lines ≡ cond b (record { first = first; end = first + 1 + n } ∷ attempts_from (first + 1 + n) lines) (attempts_from (first + 1 + n) lines))
+run_from lines others line first n b here are few has =
+    let all : drop first lines ≡ line ∷ others = sym (lines_from lines first) ∙ here in
+    let long : length lines - first ≡ suc (length others) = sym (length-drop first lines) ∙ ap length all in
+    (omega (arith, few, long), run_next lines others line first n b all are few has)
 
 -- one more check, in memory
 pub one_check : {X : Type 0} (P : X → AttemptCheck → Type 0) (all front xs : List X) (x : X) (checks checks' : List AttemptCheck) (count : ℕ) (it : AttemptCheck) →

@@ -2,8 +2,6 @@
 use Rattle.std.proofs.Common.{◌≡◌, ◌∙◌, ℕ, ◌==◌, Bool, true, false, not, cond, ◌&&◌, ◌||◌, List, [], ◌∷◌, ◌++◌, ◌⊎◌, ◌+◌, ◌<◌, length, map, take, get_or, inl, inr, refl, sym, ap, subst, append_assoc}
 use Rattle.std.specs.Prelude.{flat_map}
 use Rattle.std.specs.List.{list_all}
-use Rattle.std.proofs.lemmas.Grind.{take_at_read}
-use Rattle.std.proofs.lemmas.List.{map-append}
 use Rattle.std.proofs.lemmas.List.Folds.{list_any-append, list_all-append}
 use Rattle.niss_moves.specs.Line.{Piece, piece_bytes, base_bytes, suffix_bytes, Suffix, Item, item_bytes, Spells}
 use Rattle.niss_moves.specs.Line.Piece.{Gap, Spelled}
@@ -22,6 +20,7 @@ use Rattle.niss_attempts.specs.declared.steps.dead.Depth.TheVariants.{Out, In, W
 use Rattle.niss_attempts.specs.DeadSteps.{IsShut, after_byte, after_bytes, after_closing, after_opening}
 use Rattle.niss_attempts.specs.Corners.{EndsNone, has_bracket}
 use Rattle.niss_attempts.specs.Parts.{read_byte}
+use Rattle.niss_attempts.proofs.DeadLemmas.{read_more}
 
 -- bytes and then others
 pub after_both : (d : Depth) (xs ys : List ℕ) → after_bytes d (xs ++ ys) ≡ after_bytes (after_bytes d xs) ys
@@ -220,9 +219,7 @@ shut_in_brackets bytes more shut = wrong_ends_none ((40 ∷ bytes ++ 41 ∷ []) 
 pub depth_more : (d e : Depth) (f : ℕ → ℕ) (xs : List ℕ) (i j byte : ℕ) → i < length xs → byte ≡ f (get_or xs i j) → e ≡ after_bytes d (map f (take i xs)) →
     after_byte e byte ≡ after_bytes d (map f (take (i + 1) xs))
 depth_more d e f xs i j byte l is before =
-    let next : map f (take (i + 1) xs) ≡ map f (take i xs) ++ byte ∷ [] =
-    ap (map f) (take_at_read xs i j l).1 ∙ map-append f (take i xs) (get_or xs i j ∷ []) ∙ ap (λ b. map f (take i xs) ++ b ∷ []) (sym is) in
-    sym (ap (after_bytes d) next ∙ from_both (map f (take i xs)) (byte ∷ []) d e (sym before))
+    sym (ap (after_bytes d) (read_more f xs i j byte l is) ∙ from_both (map f (take i xs)) (byte ∷ []) d e (sym before))
 
 -- Bytes that spell pieces, once they are read, are read so without brackets too.
 pieces_have_none : (ps : List Piece) → list_all is_none (flat_map piece_bytes ps) ≡ true

@@ -2,7 +2,7 @@
 use Rattle.std.proofs.Common.{◌≡◌, ◌∙◌, ℕ, zero, suc, ◌+◌, ◌-◌, ◌<◌, ◌≤◌, ◌==◌, ◌↔◌, Bool, true, false, not, ◌&&◌, ◌||◌, List, [], ◌∷◌, ◌++◌, length, map, get_or, refl, sym, ap, subst, arith, append-nil, Result, Ok, Err, inl, inr, ◌⊎◌, cond, add-zero, length-append}
 use Rattle.std.specs.Prelude.{flat_map, slice_index, slice_range, IsTrue}
 use Rattle.std.proofs.Math.Seq.{get_or-append_seam}
-use Rattle.std.proofs.lemmas.Bool.{and_right, cases_lt}
+use Rattle.std.proofs.lemmas.Bool.{and_left, and_right, cases_lt, false_from_ne_true, ne_eqb, or_parts, or_right}
 use Rattle.std.proofs.lemmas.Bool.Decides.{eqb_tells}
 use Rattle.std.proofs.lemmas.List.{map-append, get_or_append_left}
 use Rattle.std.proofs.lemmas.List.Folds.{list_any-append}
@@ -24,7 +24,7 @@ use Rattle.niss_attempts.specs.DeadSteps.{StandsNowhere, StaysDead}
 use Rattle.niss_attempts.proofs.DeadLemmas.{dead_before}
 use Rattle.niss_attempts.specs.Corners.{Brings, Reads, ReadsSo, Ascends, has_bracket}
 use Rattle.niss_lines.specs.LineFacts.{is_small_letter}
-use Rattle.niss_attempts.specs.Parts.{read_byte, solves_line, steps_line}
+use Rattle.niss_attempts.specs.Parts.{read_byte, solves_line}
 
 -- bytes and then others
 pub spells_both : (bytes more : List ℕ) (n b m c : List Token) → Spells bytes n b → Spells more m c → Spells (bytes ++ more) (n ++ m) (b ++ c)
@@ -35,21 +35,13 @@ spells_both bytes more n b m c one two = record {
   bracketed_are = (λ i. one.bracketed_are i ++ two.bracketed_are i) ∙ sym (flat_map-append item_bracketed one.items two.items);
 }
 
-pub or_left : (a b : Bool) → (a || b) ≡ false → a ≡ false
-or_left false b e = refl
-or_left true b e = e
-
-pub or_right : (a b : Bool) → (a || b) ≡ false → b ≡ false
-or_right false b e = e
-or_right true b e = absurd (cc e)
-
 -- Moves that spell bytes without a bracket stand outside brackets.
 plain_items : (items : List Item) → has_bracket (flat_map item_bytes items) ≡ false →
     (ps : List Piece) × (flat_map item_bytes items ≡ flat_map piece_bytes ps) × (flat_map item_normal items ≡ flat_map piece_moves ps) × (flat_map item_bracketed items ≡ [])
 plain_items [] e = ([], refl, refl, refl)
 plain_items (Outside p ∷ items) e =
     let both = sym (list_any-append (λ byte. byte == 40) (piece_bytes p) (flat_map item_bytes items)) ∙ e in
-    let rest = plain_items items (or_right (has_bracket (piece_bytes p)) _ both) in
+    let rest = plain_items items (or_parts (has_bracket (piece_bytes p)) _ both).1 in
     (p ∷ rest.0, (λ i. piece_bytes p ++ rest.1 i), (λ i. piece_moves p ++ rest.2 i), rest.3)
 plain_items (Bracket ps ∷ items) e = absurd (cc e)
 
@@ -65,13 +57,6 @@ spells_in_brackets bytes n b it plain =
       normal_are = refl;
       bracketed_are = moves_are ∙ sym (append-nil (flat_map piece_moves w.0));
     }
-
-pub false_unless : (b : Bool) → (b ≡ true → ⊥) → b ≡ false
-false_unless false unless = refl
-false_unless true unless = absurd (unless refl)
-
-and_false : (a b : Bool) → a ≡ false → (a && b) ≡ false
-and_false a b e = ap (λ c. c && b) e
 
 abbrev pub IsRead : Type 0
 IsRead =
@@ -94,8 +79,8 @@ line_refused is_read one tested scramble line n b spells unless = by_result (rea
         let same = one line n b m.normal m.bracketed spells ((is_read line m).0 e).0 in
         let moves_are : joined_moves scramble ++ (n ++ inverse b) ≡ joined_moves scramble ++ joined_moves m =
         λ i. joined_moves scramble ++ (same.0 i ++ inverse (same.1 i)) in
-        and_false (solves scramble m) _
-        (false_unless (solves scramble m) (λ h. unless (subst IsRotated (sym moves_are) ((tested (joined_moves scramble ++ joined_moves m)).0 h))))
+        and_left (solves scramble m) _
+        (false_from_ne_true (solves scramble m) (λ h. unless (subst IsRotated (sym moves_are) ((tested (joined_moves scramble ++ joined_moves m)).0 h))))
 
 -- No bytes do nothing, and bytes do what the first of them and the others do.
 pub reads_nothing : (c : StepCorners) → Brings c.normal.to [] → Brings c.undone.to [] → Brings c.inverse.to [] → c.plain ≡ true → c.is_dead ≡ false → Reads [] c
@@ -134,10 +119,6 @@ reads_so_both a b c bytes more brings undoes inverts plain dead one two = record
   lives = dead ∙ (λ i. one.lives i || two.lives i);
 }
 
-second_holds : (a b : Bool) → b ≡ true → (a || b) ≡ true
-second_holds true b e = refl
-second_holds false b e = e
-
 -- Bytes before or after some that stand in no line stand in none.
 none_first : (bytes more : List ℕ) (b : StepCorners) → StandsNowhere bytes → Reads more b → StaysDead bytes more → StandsNowhere (bytes ++ more)
 none_first bytes more b (inl dead) two stays = inl (dead_before bytes more dead)
@@ -165,7 +146,7 @@ reads_both a b c bytes more brings undoes inverts plain dead (inr one) two stays
 reads_both a b c bytes more brings undoes inverts plain dead (inl one) (inr two) stays = inr (record {
   faulty = none_last bytes more a one two.faulty stays;
   not_plain = plain ∙ and_right a.plain b.plain two.not_plain;
-  is_dead = dead ∙ second_holds a.is_dead b.is_dead two.is_dead;
+  is_dead = dead ∙ or_right a.is_dead b.is_dead two.is_dead;
 })
 
 -- what is plain has no bracket
@@ -203,9 +184,6 @@ small_is_high byte small = elim (eqb_tells byte 117) [
   ]
 ]
 
-not_equal : (a b : ℕ) → (a ≡ b → ⊥) → (a == b) ≡ false
-not_equal a b differ = elim (eqb_tells a b) [ inl w ↦ absurd (differ w.1) | inr w ↦ w.0 ]
-
 capital_bracket : (byte : ℕ) → (read_byte InCapitals byte == 40) ≡ (byte == 40)
 capital_bracket byte = elim (eqb_tells byte 10) [ inl w ↦ rw w.1 refl | inr w ↦ ap (λ b. cond b 32 capital == 40) w.0 ∙ by_small (is_small_letter byte) refl ]
   where
@@ -216,7 +194,7 @@ capital_bracket byte = elim (eqb_tells byte 10) [ inl w ↦ rw w.1 refl | inr w 
     by_small false e = refl
     by_small true e =
         let high : 98 ≤ byte = small_is_high byte e in
-        not_equal (byte - 32) 40 (λ same. absurd (omega (arith, high, same))) ∙ sym (not_equal byte 40 (λ same. absurd (omega (arith, high, same))))
+        ne_eqb (byte - 32) 40 (λ same. omega (arith, high, same)) ∙ sym (ne_eqb byte 40 (λ same. omega (arith, high, same)))
 
 pub same_bracket_in_capitals : (bytes : List ℕ) → has_bracket (map (read_byte InCapitals) bytes) ≡ has_bracket bytes
 same_bracket_in_capitals [] = refl
@@ -271,25 +249,22 @@ ascends_between bounds a b up ab l =
     let is : a + (b - a) ≡ b = omega (arith, ab) in
     subst (λ (n : ℕ). slice_index bounds a ≤ slice_index bounds n) is (ascends_to bounds a (b - a) up (omega (arith, is, l)))
 
--- one more step
-pub steps_more : (text bounds : List ℕ) (steps more : List StepCorners) (one : StepCorners) (at : ℕ) → length steps + 1 ≡ at → more ≡ steps ++ one ∷ [] →
-    ((k : ℕ) (none : StepCorners) → k < length steps → Reads (steps_line text bounds k (k + 1)) (get_or steps k none)) → Reads (steps_line text bounds (at - 1) at) one →
-    (length more + 1 ≡ at + 1) × ((k : ℕ) (none : StepCorners) → k < length more → Reads (steps_line text bounds k (k + 1)) (get_or more k none))
-steps_more text bounds steps more one at number is reads last = (omega (arith, number, long), λ k none l. each k none (cases_lt k (length steps)) l)
+-- what is known of each of a list, with one more at its end
+pub each_more : (P : ℕ → StepCorners → Type 0) (steps more : List StepCorners) (one : StepCorners) → more ≡ steps ++ one ∷ [] →
+    ((k : ℕ) (none : StepCorners) → k < length steps → P k (get_or steps k none)) → P (length steps) one →
+    (k : ℕ) (none : StepCorners) → k < length more → P k (get_or more k none)
+each_more P steps more one is each last k none l = by_order (cases_lt k (length steps))
   where
     long : length more ≡ length steps + 1
     long = ap length is ∙ length-append steps (one ∷ [])
 
-    each : (k : ℕ) (none : StepCorners) → (k < length steps) ⊎ (length steps ≤ k) → k < length more → Reads (steps_line text bounds k (k + 1)) (get_or more k none)
-    each k none (inl before) l =
-        subst (Reads (steps_line text bounds k (k + 1))) (sym (ap (λ xs. get_or xs k none) is ∙ get_or_append_left steps (one ∷ []) none k before)) (reads k none before)
-    each k none (inr not_before) l =
-        let same : k ≡ length steps = omega (arith, l, long, not_before) in
-        let is_last : get_or more k none ≡ one = ap (λ n. get_or more n none) same ∙ ap (λ xs. get_or xs (length steps) none) is ∙ get_or-append_seam steps one [] none in
-        let from : at - 1 ≡ k = omega (arith, number, same) in
-        let to : at ≡ k + 1 = omega (arith, number, same) in
-        subst (Reads (steps_line text bounds k (k + 1))) (sym is_last)
-        (subst (λ (n : ℕ). Reads (steps_line text bounds k n) one) to (subst (λ (n : ℕ). Reads (steps_line text bounds n at) one) from last))
+    by_order : (k < length steps) ⊎ (length steps ≤ k) → P k (get_or more k none)
+    by_order (inl before) = subst (P k) (sym (ap (λ xs. get_or xs k none) is ∙ get_or_append_left steps (one ∷ []) none k before)) (each k none before)
+    by_order (inr not_before) =
+        let same : length steps ≡ k = omega (arith, l, long, not_before) in
+        let is_last : get_or more k none ≡ one =
+        ap (λ n. get_or more n none) (sym same) ∙ ap (λ xs. get_or xs (length steps) none) is ∙ get_or-append_seam steps one [] none in
+        subst (P k) (sym is_last) (subst (λ (n : ℕ). P n one) same last)
 
 -- what is read of a step without brackets is so without its brackets
 pub bare_reads : (bytes : List ℕ) (c : StepCorners) → c.plain ≡ true → Reads (map (read_byte AsWritten) bytes) c → Reads (map (read_byte WithoutBrackets) bytes) c

@@ -368,14 +368,14 @@ whole_line bytes front last is feed reading =
     ends [] reading = λ i. blank reading i ∷ []
     ends (x ∷ xs) reading = λ i. read_byte reading x ∷ ends xs reading i
 
--- one byte more is fed
+-- one byte more is read
+pub read_more : (f : ℕ → ℕ) (xs : List ℕ) (i d byte : ℕ) → i < length xs → byte ≡ f (get_or xs i d) → map f (take (i + 1) xs) ≡ map f (take i xs) ++ byte ∷ []
+read_more f xs i d byte l is =
+    ap (map f) (take_at_read xs i d l).1 ∙ map-append f (take i xs) (get_or xs i d ∷ []) ∙ ap (λ b. map f (take i xs) ++ b ∷ []) (sym is)
+
 pub fed_more : (front : List ℕ) (f : ℕ → ℕ) (xs : List ℕ) (i d byte : ℕ) → i < length xs → byte ≡ f (get_or xs i d) →
     (front ++ map f (take i xs)) ++ byte ∷ [] ≡ front ++ map f (take (i + 1) xs)
-fed_more front f xs i d byte l is =
-    let next : take (i + 1) xs ≡ take i xs ++ get_or xs i d ∷ [] = (take_at_read xs i d l).1 in
-    let mapped : map f (take (i + 1) xs) ≡ map f (take i xs) ++ byte ∷ [] =
-    ap (map f) next ∙ map-append f (take i xs) (get_or xs i d ∷ []) ∙ ap (λ b. map f (take i xs) ++ b ∷ []) (sym is) in
-    append_assoc front (map f (take i xs)) (byte ∷ []) ∙ ap (λ v. front ++ v) (sym mapped)
+fed_more front f xs i d byte l is = append_assoc front (map f (take i xs)) (byte ∷ []) ∙ ap (λ v. front ++ v) (sym (read_more f xs i d byte l is))
 
 -- what has a fault has it whatever follows
 stopped_more : (xs ys : List ℕ) (f : ReadFault) → run start xs ≡ Err f → run start (xs ++ ys) ≡ Err f

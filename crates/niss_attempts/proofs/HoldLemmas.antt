@@ -23,7 +23,7 @@ use Rattle.niss_moves.proofs.CallerLemmas.{Yes, Equal, Both, When, Numbers, Plac
 use Rattle.niss_attempts.specs.Corners.{Brings}
 unfoldable use Rattle.niss_attempts.specs.Corners.{corner_of}
 use Rattle.niss_attempts.specs.DeadSteps.{Rests}
-use Rattle.niss_attempts.specs.TurnedCube.{hold_numbered, letter_if, no_rotation, suffix_if, turned_bytes, word_if}
+use Rattle.niss_attempts.specs.TurnedCube.{hold_numbered, axis_letter, no_rotation, suffix_if, turned_bytes, word_if}
 use Rattle.niss_attempts.specs.declared.doubts.turned_cube.holds.Hold.{Hold}
 use Rattle.niss_attempts.proofs.CornerLemmas.{corner_is_place}
 use Rattle.niss_attempts.proofs.CornerLines.{spells_both}
@@ -118,4 +118,4 @@ pub turned_rests : (r : Rotation) → Rests (turned_bytes r)
 turned_rests r =
     let tilt = to_top r.top in
     let spin = about_vertical r.vertical in
-    rests_blank (32 ∷ letter_if tilt ∷ suffix_if tilt ∷ 32 ∷ letter_if spin ∷ suffix_if spin ∷ [])
+    rests_blank (32 ∷ axis_letter tilt ∷ suffix_if tilt ∷ 32 ∷ axis_letter spin ∷ suffix_if spin ∷ [])

@@ -1,4 +1,5 @@
 pub mod PartLemmas
+pub mod ReadAttemptLemmas
 pub mod AttemptLemmas
 pub mod TriedLemmas
 pub mod InnerLemmas

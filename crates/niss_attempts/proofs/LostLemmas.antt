@@ -38,10 +38,6 @@ one_more P n before here j less = by_order (cases_lt j n)
         let same : n ≡ j = omega (arith, less, last) in
         subst P same here
 
--- one case more of which nothing is told
-pub none_more : (Told : ℕ → Option Doubt → Type 0) (n : ℕ) → ((j : ℕ) → j < n → Told j None) → Told n None → (j : ℕ) → j < n + 1 → Told j None
-none_more Told n none not = one_more (λ j. Told j None) n none not
-
 -- what is told at a border is told before the step of its number
 pub border_told : (scramble : Result Moves ReadFault) (steps bounds text : List ℕ) (lines : List TextLine) (k : ℕ) (border : Border) (told : Option Doubt) →
     IsLostAt scramble steps bounds border.number (shown_between border.text.now border.above border.below border.has_one_sign) told → IsBorder text lines k border →

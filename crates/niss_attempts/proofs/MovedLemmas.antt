@@ -1,17 +1,15 @@
 -- What bytes with a blank after them do to the corners, and the steps from one to another; and lines in which some change places.
 use Rattle.std.proofs.Common.{◌≡◌, ◌∙◌, ◌⊎◌, ℕ, ◌+◌, ◌-◌, ◌<◌, ◌≤◌, ◌==◌, ◌&&◌, nat_lt, cond, Bool, true, false, not, Result, List, [], ◌∷◌, ◌++◌, length, get_or, refl, sym, ap, subst, arith, inl, inr, append_assoc, append-nil, length-append}
 use Rattle.std.specs.Prelude.{◌||◌, slice_index}
-use Rattle.std.proofs.Math.Bool.{or-true}
-use Rattle.std.proofs.Math.Seq.{get_or-append_seam}
+use Rattle.std.proofs.Math.Bool.{or-false, or-true}
 use Rattle.std.proofs.lemmas.Bool.{cases_eq, cases_lt, eq-eqb, le-ltb, lt-ltb, ne_eqb}
-use Rattle.std.proofs.lemmas.List.{get_or_append_left}
 use Rattle.std.proofs.lemmas.List.Folds.{list_any-append}
 use Rattle.niss_moves.specs.Line.{Moves, Spells}
 use Rattle.niss_moves.specs.Reader.{read_line}
 use Rattle.niss_moves.specs.declared.fault.ReadFault.{ReadFault}
 use Rattle.niss_moves.specs.declared.token.Token.{Token}
 use Rattle.niss_attempts.specs.declared.steps.corners.StepCorners.{StepCorners}
-use Rattle.niss_attempts.specs.Corners.{AreSteps, IsTail, Reads, has_bracket}
+use Rattle.niss_attempts.specs.Corners.{AreSteps, Reads, has_bracket}
 use Rattle.niss_attempts.specs.DeadSteps.{AreParted, StandsNowhere, StaysDead}
 use Rattle.niss_attempts.specs.MovedStep.{IsMovedAmong, IsMovedAt, line_moved, solves_exchanged, solves_moved, with_blank}
 use Rattle.niss_attempts.specs.Parts.{solves_line, steps_line}
@@ -20,10 +18,6 @@ use Rattle.niss_attempts.proofs.CornerLines.{ascends_between, joined_steps, spel
 use Rattle.niss_attempts.proofs.DeadLemmas.{dead_after, dead_before, rests_blank}
 use Rattle.niss_attempts.proofs.HoldLemmas.{blank_spelled}
 use Rattle.niss_attempts.proofs.TailLemmas.{steps_stay_dead}
-
-or_nothing : (b : Bool) → (b || false) ≡ b
-or_nothing true = refl
-or_nothing false = refl
 
 -- A blank does nothing.
 pub blank_reads : (bytes : List ℕ) (c : StepCorners) → Reads bytes c → Reads (with_blank bytes) c
@@ -37,7 +31,7 @@ blank_reads bytes c (inl one) = inl (record {
   brings = one.brings;
   undoes = one.undoes;
   inverts = one.inverts;
-  is_plain = one.is_plain ∙ ap not (sym (list_any-append (λ byte. byte == 40) bytes (32 ∷ []) ∙ or_nothing (has_bracket bytes)));
+  is_plain = one.is_plain ∙ ap not (sym (list_any-append (λ byte. byte == 40) bytes (32 ∷ []) ∙ or-false (has_bracket bytes)));
   lives = one.lives;
 })
 blank_reads bytes c (inr none) = inr (record { faulty = by_kind none.faulty; not_plain = none.not_plain; is_dead = none.is_dead })
@@ -49,12 +43,6 @@ blank_reads bytes c (inr none) = inr (record { faulty = by_kind none.faulty; not
 -- No move goes on from it.
 pub blank_stays : (bytes more : List ℕ) → StaysDead (with_blank bytes) more
 blank_stays bytes more dead = dead_after (with_blank bytes) more (rests_blank bytes) dead
-
--- the line of stretches, from its end on
-pub stretches_tail : (a b c d to : List ℕ) → IsTail (a ++ (b ++ (c ++ d))) to → IsTail (a ++ b ++ c ++ d) to
-stretches_tail a b c d to tail =
-    let same : a ++ (b ++ (c ++ d)) ≡ a ++ b ++ c ++ d = simp append_assoc in
-    subst (λ (v : List ℕ). IsTail v to) same tail
 
 -- one step more after some
 pub step_more : (text bounds : List ℕ) (steps same : List StepCorners) (first step : ℕ) (before after none : StepCorners) → same ≡ steps → AreSteps text bounds steps →
@@ -97,25 +85,6 @@ step_less text bounds steps same step last later both none is are parted ordered
     (ascends_between bounds (step + 1) last up ordered within))
     (joins (steps_line text bounds step (step + 1)) (steps_line text bounds (step + 1) last) one reads
     (steps_stay_dead text bounds step (step + 1) last parted up (omega arith) ordered within))
-
--- what is known of the steps before each place, with one place more
-pub fronts_more : (text bounds : List ℕ) (fronts more : List StepCorners) (one : StepCorners) → more ≡ fronts ++ one ∷ [] →
-    ((k : ℕ) (none : StepCorners) → k < length fronts → Reads (steps_line text bounds 0 k) (get_or fronts k none)) →
-    Reads (steps_line text bounds 0 (length fronts)) one →
-    (k : ℕ) (none : StepCorners) → k < length more → Reads (steps_line text bounds 0 k) (get_or more k none)
-fronts_more text bounds fronts more one is reads last k none l = each (cases_lt k (length fronts))
-  where
-    long : length more ≡ length fronts + 1
-    long = ap length is ∙ length-append fronts (one ∷ [])
-
-    each : (k < length fronts) ⊎ (length fronts ≤ k) → Reads (steps_line text bounds 0 k) (get_or more k none)
-    each (inl before) =
-        subst (Reads (steps_line text bounds 0 k)) (sym (ap (λ xs. get_or xs k none) is ∙ get_or_append_left fronts (one ∷ []) none k before)) (reads k none before)
-    each (inr not_before) =
-        let same : length fronts ≡ k = omega (arith, l, long, not_before) in
-        let is_last : get_or more k none ≡ one =
-        ap (λ n. get_or more n none) (sym same) ∙ ap (λ xs. get_or xs (length fronts) none) is ∙ get_or-append_seam fronts one [] none in
-        subst (Reads (steps_line text bounds 0 k)) (sym is_last) (subst (λ (n : ℕ). Reads (steps_line text bounds 0 n) one) same last)
 
 -- A step that is moved changes places with those between.
 pub moved_up : (scramble : Result Moves ReadFault) (steps bounds : List ℕ) (step place : ℕ) → place < step →

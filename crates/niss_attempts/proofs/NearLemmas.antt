@@ -1,6 +1,6 @@
 -- Sequences that are the same but in one place, and their ends.
-use Rattle.std.proofs.Common.{◌≡◌, ◌∙◌, ◌≤◌, ◌⊎◌, inl, inr, ◌↔◌, IsTrue, Bool, List, [], ◌∷◌, ◌++◌, length, get_or, refl, sym, ap, subst, arith}
-use Rattle.std.proofs.lemmas.List.{append_assoc, append-nil, length-append}
+use Rattle.std.proofs.Common.{◌≡◌, ◌∙◌, ◌≤◌, ◌⊎◌, inl, inr, ◌↔◌, IsTrue, Bool, List, [], ◌∷◌, ◌++◌, length, refl, sym, ap, subst, arith}
+use Rattle.std.proofs.lemmas.List.{append_assoc, append-nil, length-append, same_from_push}
 use Rattle.niss_moves.specs.declared.turn.Turn.{Turn}
 use Rattle.niss_attempts.specs.Beside.{AreNear}
 use Rattle.niss_attempts.specs.Ends.{AreNearAtBegin, BeginSame, EndSame}
@@ -22,16 +22,6 @@ has_last (x ∷ xs) = inr (last_after x xs (has_last xs))
 abbrev rest_of : List Turn → List Turn
 rest_of [] = []
 rest_of (x ∷ xs) = xs
-
--- the fronts of two lists are equal if these are with an item after each
-pub same_fronts : (xs ys : List Turn) (x y : Turn) → xs ++ x ∷ [] ≡ ys ++ y ∷ [] → xs ≡ ys
-same_fronts [] [] x y same = refl
-same_fronts [] (u ∷ ys) x y same = absurd (omega (arith, ap length same, length-append ys (y ∷ [])))
-same_fronts (t ∷ xs) [] x y same = absurd (omega (arith, ap length same, length-append xs (x ∷ [])))
-same_fronts (t ∷ xs) (u ∷ ys) x y same =
-    let rests : xs ≡ ys = same_fronts xs ys x y (ap rest_of same) in
-    let firsts : t ≡ u = ap (λ zs. get_or zs 0 t) same in
-    ap (λ zs. t ∷ zs) rests ∙ ap (λ v. v ∷ ys) firsts
 
 near_parts : (turn : Turn) (rest others_rest before own others after : List Turn) → turn ∷ rest ≡ before ++ (own ++ after) →
     turn ∷ others_rest ≡ before ++ (others ++ after) → length own ≤ 2 → length others ≤ 2 → AreNear rest others_rest
@@ -111,7 +101,7 @@ few_before turn front own after is none few =
 
 front_is : (turn : Turn) (front own after : List Turn) (last : HasLast after) → front ++ turn ∷ [] ≡ own ++ after → front ≡ own ++ last.front
 front_is turn front own after last is =
-    same_fronts front (own ++ last.front) turn last.last (is ∙ (ap (λ xs. own ++ xs) last.is ∙ sym (append_assoc own last.front (last.last ∷ []))))
+    (same_from_push front (own ++ last.front) turn last.last (is ∙ (ap (λ xs. own ++ xs) last.is ∙ sym (append_assoc own last.front (last.last ∷ []))))).0
 
 begin_parts_shorter : (turn : Turn) (front other_front own others after : List Turn) → front ++ turn ∷ [] ≡ own ++ after → other_front ++ turn ∷ [] ≡ others ++ after →
     length own ≤ 2 → length others ≤ 2 → (after ≡ []) ⊎ HasLast after → AreNearAtBegin front other_front

@@ -157,9 +157,6 @@ from_more solving first end none how q same some near = last (cases_lt q.end end
     last (inl less) = none q same some less
     last (inr not) = ap solving (sym (same_part q first end same (omega arith))) ∙ how q.how
 
-pub from_none : (solving : Part → Bool) (steps first end : ℕ) → steps < end → NoneFrom solving first end → IsFirstFrom steps solving first None
-from_none solving steps first end all none q among same = none q same among.0 (omega (arith, among.1))
-
 -- no part that begins before a step solves
 abbrev pub NoneBefore : ℕ → (Part → Bool) → ℕ → Type 0
 NoneBefore steps solving first = (q : Part) → IsPart steps q → q.first < first → solving q ≡ false
@@ -171,13 +168,3 @@ none_more solving steps first none from q among near = last (cases_lt q.first fi
     last : (q.first < first) ⊎ (first ≤ q.first) → solving q ≡ false
     last (inl less) = none q among less
     last (inr not) = from q among (omega arith)
-
--- one step more that doesn't solve
-pub none_to_more : (solving : ℕ → Bool) (n : ℕ) → ((k : ℕ) → k < n → solving k ≡ false) → solving n ≡ false → (k : ℕ) → k < n + 1 → solving k ≡ false
-none_to_more solving n none not k less = by_order (cases_lt k n)
-  where
-    by_order : (k < n) ⊎ (n ≤ k) → solving k ≡ false
-    by_order (inl before) = none k before
-    by_order (inr last) =
-        let same : k ≡ n = omega (arith, less, last) in
-        ap solving same ∙ not

@@ -2,7 +2,7 @@
 use Rattle.std.proofs.Common.{◌≡◌, ◌∙◌, ℕ, zero, suc, ◌==◌, Bool, false, not, List, [], ◌∷◌, map, None, Ok, Err, Result, refl, sym, ap, arith, inl, inr}
 use Rattle.std.specs.Prelude.{slice_index, slice_range, nat_lt}
 use Rattle.std.specs.List.{list_any}
-use Rattle.std.proofs.lemmas.Bool.{and_right}
+use Rattle.std.proofs.lemmas.Bool.{and_right, or_parts}
 use Rattle.std.proofs.lemmas.Bool.Decides.{eqb_tells}
 use Rattle.niss_moves.specs.Line.{Moves, Spells}
 use Rattle.niss_moves.specs.Reader.{read_line}
@@ -13,7 +13,7 @@ use Rattle.niss_attempts.specs.declared.steps.reading.Reading.{Reading}
 use Rattle.niss_attempts.specs.declared.steps.reading.Reading.TheVariants.{AsWritten}
 use Rattle.niss_attempts.specs.Corners.{AreBounds}
 use Rattle.niss_attempts.specs.Parts.{IsFirst, end_of_steps, number_of_steps, part, read_byte, solves_all, solves_line, solves_part}
-use Rattle.niss_attempts.proofs.CornerLines.{IsRead, HasOneReading, or_left, or_right}
+use Rattle.niss_attempts.proofs.CornerLines.{IsRead, HasOneReading}
 
 -- bytes of which none is read otherwise are read as they are written
 abbrev differs : Reading → ℕ → Bool
@@ -24,9 +24,9 @@ read_alike reading [] none = refl
 read_alike reading (byte ∷ bytes) none =
     let first : read_byte reading byte ≡ read_byte AsWritten byte = elim (eqb_tells (read_byte reading byte) (read_byte AsWritten byte)) [
       | inl w ↦ w.1
-      | inr w ↦ absurd (cc (sym (ap not w.0) ∙ or_left (differs reading byte) (list_any (differs reading) bytes) none))
+      | inr w ↦ absurd (cc (sym (ap not w.0) ∙ (or_parts (differs reading byte) (list_any (differs reading) bytes) none).0))
     ] in
-    let rest = read_alike reading bytes (or_right (differs reading byte) (list_any (differs reading) bytes) none) in
+    let rest = read_alike reading bytes (or_parts (differs reading byte) (list_any (differs reading) bytes) none).1 in
     λ i. first i ∷ rest i
 
 -- what has no bytes has no moves, and doesn't solve

@@ -1,11 +1,10 @@
 -- At a place of a text no face stands if none may begin there.
 use Rattle.std.proofs.Common.{◌≡◌, ℕ, zero, suc, Bool, false, List, [], ◌∷◌, drop, refl, ap, arith, ◌+◌}
 use Rattle.std.specs.Prelude.{◌||◌, slice_get, slice_index}
-use Rattle.std.proofs.lemmas.Bool.{and_left, and_right}
+use Rattle.std.proofs.lemmas.Bool.{and_left, and_right, or_parts}
 use Rattle.niss_moves.specs.declared.turn.Face.{Face}
 use Rattle.niss_moves.specs.declared.turn.Face.TheVariants.{U, D, R, L, F, B}
 use Rattle.niss_text.specs.declared.text_line.TextLine.{TextLine}
-use Rattle.niss_attempts.proofs.CornerLines.{or_left, or_right}
 use Rattle.niss_attempts.specs.ShownTurn.{is_apart, is_face_letter, is_letter_of, step_at, step_above}
 unfoldable use Rattle.niss_attempts.specs.ShownTurn.{stands_at}
 
@@ -13,26 +12,31 @@ unfoldable use Rattle.niss_attempts.specs.ShownTurn.{stands_at}
 abbrev one_of : (Face → Bool) → Bool
 one_of is = is U || (is D || (is R || (is L || (is F || is B))))
 
--- what is known of the letters after the first ones
-not_u : (is : Face → Bool) → one_of is ≡ false → (is D || (is R || (is L || (is F || is B)))) ≡ false
-not_u is none = or_right (is U) (is D || (is R || (is L || (is F || is B)))) none
-
-not_d : (is : Face → Bool) → one_of is ≡ false → (is R || (is L || (is F || is B))) ≡ false
-not_d is none = or_right (is D) (is R || (is L || (is F || is B))) (not_u is none)
-
-not_r : (is : Face → Bool) → one_of is ≡ false → (is L || (is F || is B)) ≡ false
-not_r is none = or_right (is R) (is L || (is F || is B)) (not_d is none)
-
-not_l : (is : Face → Bool) → one_of is ≡ false → (is F || is B) ≡ false
-not_l is none = or_right (is L) (is F || is B) (not_r is none)
-
 none_is : (is : Face → Bool) → one_of is ≡ false → (face : Face) → is face ≡ false
-none_is is none U = or_left (is U) (is D || (is R || (is L || (is F || is B)))) none
-none_is is none D = or_left (is D) (is R || (is L || (is F || is B))) (not_u is none)
-none_is is none R = or_left (is R) (is L || (is F || is B)) (not_d is none)
-none_is is none L = or_left (is L) (is F || is B) (not_r is none)
-none_is is none F = or_left (is F) (is B) (not_l is none)
-none_is is none B = or_right (is F) (is B) (not_l is none)
+none_is is none face = by_face face
+  where
+    u : (is U ≡ false) × ((is D || (is R || (is L || (is F || is B)))) ≡ false)
+    u = or_parts (is U) (is D || (is R || (is L || (is F || is B)))) none
+
+    d : (is D ≡ false) × ((is R || (is L || (is F || is B))) ≡ false)
+    d = or_parts (is D) (is R || (is L || (is F || is B))) u.1
+
+    r : (is R ≡ false) × ((is L || (is F || is B)) ≡ false)
+    r = or_parts (is R) (is L || (is F || is B)) d.1
+
+    l : (is L ≡ false) × ((is F || is B) ≡ false)
+    l = or_parts (is L) (is F || is B) r.1
+
+    f : (is F ≡ false) × (is B ≡ false)
+    f = or_parts (is F) (is B) l.1
+
+    by_face : (face : Face) → is face ≡ false
+    by_face U = u.0
+    by_face D = d.0
+    by_face R = r.0
+    by_face L = l.0
+    by_face F = f.0
+    by_face B = f.1
 
 pub none_lettered : (text : List ℕ) (at : ℕ) → is_face_letter (slice_index text at) ≡ false → (face : Face) → stands_at text face at ≡ false
 unfolding stands_at

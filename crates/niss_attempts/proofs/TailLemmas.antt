@@ -18,7 +18,7 @@ use Rattle.niss_attempts.specs.declared.steps.corners.StepCorners.{StepCorners}
 use Rattle.niss_attempts.specs.declared.steps.sets.StepSet.{StepSet}
 use Rattle.niss_attempts.specs.DeadSteps.{AreParted, IsDead, IsParted, Rests, StandsNowhere, StaysDead}
 use Rattle.niss_attempts.specs.Corners.{Brings, Reads, ReadsSo, Ascends, IsTail, EndsNone, AreSteps, AreTails, has_bracket, home, line_from, no_step}
-use Rattle.niss_attempts.specs.Parts.{has, bare_step, read_byte, step_with, steps_line, in_brackets_if, solves_line}
+use Rattle.niss_attempts.specs.Parts.{has, bare_step, number_of_steps, read_byte, step_with, steps_line, in_brackets_if, solves_line}
 use Rattle.niss_attempts.proofs.BracketLemmas.{nested_ends_none, more_ends_none, shut_ends_none, shut_in_brackets, spelled_out}
 use Rattle.niss_attempts.proofs.DeadLemmas.{dead_before, dead_after, dead_fails, dead_in_brackets, rests_both, rests_brackets, rests_nothing, stays_dead}
 use Rattle.niss_attempts.proofs.CornerLemmas.{by_nothing}
@@ -108,23 +108,20 @@ tail_between before own after to tail =
     let same : before ++ (own ++ after) ≡ before ++ own ++ after = simp append_assoc in
     subst (λ (v : List ℕ). IsTail v to) same tail
 
--- bytes three times, before others
-pub tail_of_three : (own after to : List ℕ) → IsTail (own ++ (own ++ (own ++ after))) to → IsTail (own ++ own ++ own ++ after) to
-tail_of_three own after to tail =
-    let same : own ++ (own ++ (own ++ after)) ≡ own ++ own ++ own ++ after = simp append_assoc in
+-- the line of four stretches, from its end on
+pub tail_of_four : (a b c d to : List ℕ) → IsTail (a ++ (b ++ (c ++ d))) to → IsTail (a ++ b ++ c ++ d) to
+tail_of_four a b c d to tail =
+    let same : a ++ (b ++ (c ++ d)) ≡ a ++ b ++ c ++ d = simp append_assoc in
     subst (λ (v : List ℕ). IsTail v to) same tail
 
 -- all steps from one on are that one and those after it
-abbrev steps_of : List ℕ → ℕ
-steps_of bounds = length bounds - 1
-
-line_next : (text bounds : List ℕ) (chosen : StepSet) (step : ℕ) → step < steps_of bounds →
+line_next : (text bounds : List ℕ) (chosen : StepSet) (step : ℕ) → step < number_of_steps bounds →
     line_from text bounds chosen step ≡ step_with text bounds chosen step ++ line_from text bounds chosen (step + 1)
 line_next text bounds chosen step l =
     let one : length bounds - 1 - step ≡ suc (length bounds - 1 - (step + 1)) = omega (arith, l) in
     ap (λ n. flat_map (step_with text bounds chosen) (range_with_len step n)) one
 
-line_end : (text bounds : List ℕ) (chosen : StepSet) (step : ℕ) → steps_of bounds ≤ step → line_from text bounds chosen step ≡ []
+line_end : (text bounds : List ℕ) (chosen : StepSet) (step : ℕ) → number_of_steps bounds ≤ step → line_from text bounds chosen step ≡ []
 line_end text bounds chosen step l =
     let none : length bounds - 1 - step ≡ 0 = omega (arith, l) in
     ap (λ n. flat_map (step_with text bounds chosen) (range_with_len step n)) none

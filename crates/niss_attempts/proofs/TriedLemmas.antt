@@ -1,7 +1,7 @@
 -- Which numbers are tried, and the first of them that holds.
 use Rattle.std.proofs.Common.{◌≡◌, ◌∙◌, ℕ, ◌+◌, ◌<◌, ◌≤◌, ◌&&◌, nat_lt, Bool, true, false, cond, Some, [], ◌∷◌, ◌++◌, length, refl, sym, ap, arith, length-append}
 use Rattle.std.specs.List.{filter, range_with_len}
-use Rattle.std.proofs.lemmas.Bool.{ltb-true, ltb-false}
+use Rattle.std.proofs.lemmas.Bool.{and_parts, ltb-true, ltb-false}
 use Rattle.std.proofs.lemmas.List.Elements.{filter-append}
 use Rattle.niss_search.proofs.CallerLemmas.{range_push}
 use Rattle.niss_attempts.proofs.LostLemmas.{one_more}
@@ -14,10 +14,6 @@ count_more is_so n b is =
     ∙ ap length (filter-append is_so (range_with_len 0 n) (n ∷ []))
     ∙ ap (λ c. length (filter is_so (range_with_len 0 n) ++ cond c (n ∷ []) [])) is
     ∙ length-append (filter is_so (range_with_len 0 n)) (cond b (n ∷ []) [])
-
-both_true : (x y : Bool) → (x && y) ≡ true → (x ≡ true) × (y ≡ true)
-both_true true y is = (refl, is)
-both_true false y is = absurd (cc is)
 
 left_false : (x y : Bool) → y ≡ true → (x && y) ≡ false → x ≡ false
 left_false true y is not = absurd (cc (sym is ∙ not))
@@ -58,7 +54,7 @@ tries_passed is_so Holds at tried untried it = passed is_so Holds at tried (is_s
 pub tries_more : (is_so : ℕ → Bool) (Holds : ℕ → Bool → Type 0) (at tried : ℕ) → (nat_lt tried most_lines_tried && is_so at) ≡ true → Holds at false →
     AreTried is_so Holds at tried → AreTried is_so Holds (at + 1) (tried + 1)
 tries_more is_so Holds at tried is not it =
-    let both = both_true (nat_lt tried most_lines_tried) (is_so at) is in
+    let both = and_parts (nat_lt tried most_lines_tried) (is_so at) is in
     let here : count_before is_so (at + 1) ≡ count_before is_so at + 1 = count_more is_so at true both.1 in
     let so_far = it.all (ltb-true tried most_lines_tried both.0) in
     record {
@@ -71,7 +67,7 @@ tries_more is_so Holds at tried is not it =
 pub tries_first : (bound : ℕ) (is_so : ℕ → Bool) (Holds : ℕ → Bool → Type 0) (at tried : ℕ) → at < bound → (nat_lt tried most_lines_tried && is_so at) ≡ true → Holds at true →
     AreTried is_so Holds at tried → IsFirstTried bound is_so Holds (Some at)
 tries_first bound is_so Holds at tried within is holds it =
-    let both = both_true (nat_lt tried most_lines_tried) (is_so at) is in
+    let both = and_parts (nat_lt tried most_lines_tried) (is_so at) is in
     let low = ltb-true tried most_lines_tried both.0 in
     let so_far = it.all low in
     (within, (both.1, omega (arith, low, so_far)), holds, it.none)

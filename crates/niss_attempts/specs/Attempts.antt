@@ -1,7 +1,7 @@
 -- What is told of attempts that were checked.
-use Rattle.std.specs.Prelude.{◌≡◌, ℕ, zero, suc, ◌+◌, ◌-◌, ◌<◌, ◌==◌, if◌then◌else◌, nat_lt, Bool, true, false, not, ◌&&◌, ⊤, ◌≤◌, ◌↔◌, IsTrue, Ok, min, Option, None, Some, is_some, Result, List, [], ◌∷◌, length, drop, get_or, slice_range}
+use Rattle.std.specs.Prelude.{◌≡◌, ℕ, zero, suc, ◌+◌, ◌-◌, ◌<◌, ◌==◌, if◌then◌else◌, nat_lt, Bool, true, false, not, ◌&&◌, ⊤, ◌≤◌, ◌↔◌, IsTrue, Ok, min, Option, None, Some, is_some, Result, List, [], ◌∷◌, find, length, drop, get_or, slice_range}
 use Rattle.std.specs.List.{list_any, range_with_len}
-use Rattle.std.specs.Option.{option_or}
+use Rattle.std.specs.Option.{option_map, option_or}
 use Rattle.niss_text.specs.Moves.{is_wanted}
 use Rattle.niss_text.specs.declared.moves.MovesOf.TheVariants.{Scramble, Solution, EachStep}
 use Rattle.niss_text.specs.declared.text_line.TextLine.{TextLine}
@@ -17,8 +17,8 @@ use Rattle.niss_attempts.specs.declared.attempts.judged.Judged.{Judged}
 use Rattle.niss_attempts.specs.declared.attempts.Outcome.{Outcome}
 use Rattle.niss_attempts.specs.declared.attempts.Outcome.TheVariants.{AtFault, Solved, Unsolved}
 use Rattle.niss_attempts.specs.declared.attempts.runs.Placed.{Placed}
-use Rattle.niss_attempts.specs.declared.attempts.known_parts.Found.{Found}
-use Rattle.niss_attempts.specs.declared.attempts.known_parts.Known.{Known}
+use Rattle.niss_attempts.specs.declared.attempts.known_parts.WrittenScramble.{WrittenScramble}
+use Rattle.niss_attempts.specs.declared.attempts.known_parts.Solution.{Solution as PartSolution}
 use Rattle.niss_text.specs.declared.known.KnownPart.{KnownPart}
 use Rattle.niss_moves.specs.Line.{Moves}
 use Rattle.niss_moves.specs.Reader.{read_line}
@@ -37,14 +37,11 @@ use Rattle.niss_attempts.specs.declared.attempts.runs.Run.{Run}
 
 -- what makes one doubt the first of some lines that is in doubt
 abbrev pub first_doubt : List TextLine → Option Doubt
-first_doubt [] = None
-first_doubt (line ∷ lines) = if line.doubt == 0 then first_doubt lines else Some (doubt (OfLine line.doubt) line.doubt_at)
+first_doubt lines = option_map (λ line. doubt (OfLine line.doubt) line.doubt_at) (find (λ line. not (line.doubt == 0)) lines)
 
 -- the doubt of the first of them that may be of a scramble
 abbrev pub first_stray : List TextLine → Option Doubt
-first_stray [] = None
-first_stray (line ∷ lines) =
-    if line.doubt == number_of StepOrScramble then Some (doubt StepOrScramble line.doubt_at) else first_stray lines
+first_stray lines = option_map (λ line. doubt StepOrScramble line.doubt_at) (find (λ line. line.doubt == number_of StepOrScramble) lines)
 
 -- a scramble whose bytes have places in the text is solved by itself
 abbrev pub is_solved : (scramble places : List ℕ) → Bool
@@ -194,7 +191,7 @@ pub record IsSameCube (one other : List ℕ) : Type 0 where
   pub same : line_text Print moves ≡ line_text Print other_moves
 
 -- The scramble that stands in a part whose scramble is known: whether it makes the same cube, and its first place.
-pub record IsFound (text : List ℕ) (lines : List TextLine) (scramble : List ℕ) (it : Found) : Type 0 where
+pub record IsWrittenScramble (text : List ℕ) (lines : List TextLine) (scramble : List ℕ) (it : WrittenScramble) : Type 0 where
   pub bytes : List ℕ
   pub places : List ℕ
   pub are_moves : AreWritten text Scramble lines bytes places
@@ -222,14 +219,29 @@ most_tried = 64
 abbrev pub solves_some : (scrambles ends solution : List ℕ) → Bool
 solves_some scrambles ends solution = list_any (solves_known scrambles ends solution) (range_with_len 0 (min most_tried (length ends)))
 
--- all known scrambles, by their bytes and where each ends, and where the part begins of which one is told
-pub record Elsewhere : Type 0 where
+-- What is asked of a part of a text of solutions: the text, the lines of its solution and which these are, all up to its end, its
+-- scramble, all that are known, by their bytes and where each ends, and where it begins.
+pub record AskedPart : Type 0 where
+  pub text : List ℕ
+  pub own : List TextLine
+  pub lines : Run
+  pub beside : List TextLine
+  pub scramble : List ℕ
   pub scrambles : List ℕ
   pub ends : List ℕ
   pub begin : ℕ
 
-abbrev pub elsewhere : Known → ℕ → Elsewhere
-elsewhere known begin = record { scrambles = known.scrambles.now; ends = known.ends.now; begin = begin }
+abbrev pub asked : PartSolution → AskedPart
+asked it = record {
+  text = it.text.now;
+  own = it.own.now;
+  lines = it.lines;
+  beside = it.others.now;
+  scramble = it.scramble.now;
+  scrambles = it.known.scrambles.now;
+  ends = it.known.ends.now;
+  begin = it.begin;
+}
 
 -- Another scramble may be meant: there is a solution, which has no fault and doesn't solve, and no doubt.
 abbrev pub is_open : Judged → Bool
@@ -243,47 +255,46 @@ or_which true begin it = in_doubt (doubt WhichScramble begin) it
 or_which false begin it = it
 
 -- What was judged is in doubt if the solution solves a known scramble.
-pub record IsOfSome (text : List ℕ) (own : List TextLine) (others : Elsewhere) (judged it : Judged) : Type 0 where
+pub record IsOfSome (part : AskedPart) (judged it : Judged) : Type 0 where
   pub solution : List ℕ
   pub places : List ℕ
-  pub is_solution : AreWritten text Solution own solution places
-  pub it_is : it ≡ or_which (solves_some others.scrambles others.ends solution) others.begin judged
+  pub is_solution : AreWritten part.text Solution part.own solution places
+  pub it_is : it ≡ or_which (solves_some part.scrambles part.ends solution) part.begin judged
 
 -- The known scrambles are tried if another one may be meant.
-abbrev pub IsTried : (is_open : Bool) → (text : List ℕ) → (own : List TextLine) → Elsewhere → (judged it : Judged) → Type 0
-IsTried true text own others judged it = IsOfSome text own others judged it
-IsTried false text own others judged it = it ≡ judged
+abbrev pub IsTriedElsewhere : (is_open : Bool) → AskedPart → (judged it : Judged) → Type 0
+IsTriedElsewhere true part judged it = IsOfSome part judged it
+IsTriedElsewhere false part judged it = it ≡ judged
 
 -- A scramble is solved, or not, by lines of its own, with this doubt of the reading; or they may solve another one.
-pub record IsAlone (text : List ℕ) (own : List TextLine) (lines : Run) (scramble : List ℕ) (others : Elsewhere) (read : Option Doubt) (it : Placed) : Type 0 where
+pub record IsAlone (part : AskedPart) (read : Option Doubt) (it : Placed) : Type 0 where
   pub judged : Judged
-  pub lines_are : it.lines ≡ lines
-  pub is_checked : IsChecked text own scramble [] read judged
-  pub tried : IsTried (is_open judged) text own others judged it.judged
+  pub lines_are : it.lines ≡ part.lines
+  pub is_checked : IsChecked part.text part.own part.scramble [] read judged
+  pub tried : IsTriedElsewhere (is_open judged) part judged it.judged
 
 -- An attempt among other lines is meant, which has the only solution, and the same scramble.
-abbrev pub is_meant : (is_only : Bool) → Found → (own : List TextLine) → Bool
-is_meant is_only found own = is_only && (found.is_same && not (list_any (is_wanted Solution) own))
+abbrev pub is_meant : (is_only : Bool) → WrittenScramble → (own : List TextLine) → Bool
+is_meant is_only written own = is_only && (written.is_same && not (list_any (is_wanted Solution) own))
 
-abbrev pub IsMeant : Bool → List ℕ → (own beside : List TextLine) → (lines run : Run) → (scramble : List ℕ) → Elsewhere → Found → Placed → Type 0
-IsMeant true text own beside lines run scramble others found it = IsOfRun text beside run it
-IsMeant false text own beside lines run scramble others found it = IsAlone text own lines scramble others (Some (doubt AnotherScramble found.at)) it
+abbrev pub IsMeant : Bool → AskedPart → Run → WrittenScramble → Placed → Type 0
+IsMeant true part run written it = IsOfRun part.text part.beside run it
+IsMeant false part run written it = IsAlone part (Some (doubt AnotherScramble written.at)) it
 
 -- What is told of a known scramble by lines of its own, and an attempt among others that has a scramble, the only one or not.
-pub record IsBeside (text : List ℕ) (own beside : List TextLine) (lines : Run) (scramble : List ℕ) (others : Elsewhere) (run : Run) (is_only : Bool) (it : Placed)
-    : Type 0 where
-  pub found : Found
-  pub is_found : IsFound text (slice_range beside run.first run.end) scramble found
-  pub which : IsMeant (is_meant is_only found own) text own beside lines run scramble others found it
+pub record IsBeside (part : AskedPart) (run : Run) (is_only : Bool) (it : Placed) : Type 0 where
+  pub written : WrittenScramble
+  pub is_written : IsWrittenScramble part.text (slice_range part.beside run.first run.end) part.scramble written
+  pub which : IsMeant (is_meant is_only written part.own) part run written it
 
 abbrev pub has_none : List Run → Bool
 has_none [] = true
 has_none (run ∷ runs) = false
 
 -- The same by all attempts among the others that have a scramble.
-abbrev pub IsOfKnown : List ℕ → (own beside : List TextLine) → Run → (scramble : List ℕ) → Elsewhere → List Run → Placed → Type 0
-IsOfKnown text own beside lines scramble others [] it = IsAlone text own lines scramble others (first_doubt own) it
-IsOfKnown text own beside lines scramble others (run ∷ runs) it = IsBeside text own beside lines scramble others run (has_none runs) it
+abbrev pub IsOfKnown : AskedPart → List Run → Placed → Type 0
+IsOfKnown part [] it = IsAlone part (first_doubt part.own) it
+IsOfKnown part (run ∷ runs) it = IsBeside part run (has_none runs) it
 
 abbrev pub run_of : KnownPart → Run
 run_of part = record { first = part.first_line; end = part.solution_end }
@@ -300,11 +311,22 @@ pub record IsUnseen (part : KnownPart) (it : Placed) : Type 0 where
 abbrev pub below_or_none : ℕ → ℕ → ℕ
 below_or_none count n = if nat_lt n count then n else no_place
 
+-- the solution of a part, of which is asked whether it solves the scramble of its number
+abbrev pub asked_of : (text : List ℕ) → List TextLine → (scrambles ends : List ℕ) → KnownPart → AskedPart
+asked_of text lines scrambles ends part = record {
+  text = text;
+  own = lines_of lines part;
+  lines = run_of part;
+  beside = up_to lines part;
+  scramble = scramble_of scrambles ends part.scramble;
+  scrambles = scrambles;
+  ends = ends;
+  begin = part.begin;
+}
+
 -- What is told of a part, of a known scramble or of none that can be seen.
 pub record IsOfScramble (text : List ℕ) (lines : List TextLine) (scrambles ends : List ℕ) (part : KnownPart) (it : Placed) : Type 0 where
-  pub seen : part.scramble < length ends →
-      IsOfKnown text (lines_of lines part) (up_to lines part) (run_of part) (scramble_of scrambles ends part.scramble)
-      (record { scrambles = scrambles; ends = ends; begin = part.begin }) (others_of lines part) it
+  pub seen : part.scramble < length ends → IsOfKnown (asked_of text lines scrambles ends part) (others_of lines part) it
   pub unseen : length ends ≤ part.scramble → IsUnseen part it
 
 -- This is the check of a part of a text of solutions, of scrambles that are known.

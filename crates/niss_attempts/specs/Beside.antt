@@ -94,7 +94,7 @@ first_slip [] = None
 first_slip (step ∷ steps) = if step.seen.is_slip then Some (doubt SeveralSolutions step.line.moves) else first_slip steps
 
 -- What is found in the steps among some lines.
-pub record IsFound (text : List ℕ) (lines : List TextLine) (scramble : Moves) (solution : List Turn) (it : Beside) : Type 0 where
+pub record IsFoundBeside (text : List ℕ) (lines : List TextLine) (scramble : Moves) (solution : List Turn) (it : Beside) : Type 0 where
   pub steps : List Step
   pub are_lines : map (λ step. step.line) steps ≡ filter (is_wanted EachStep) lines
   pub are_seen : All (λ step. IsSeen (is_long_other step.line) text step.line scramble solution step.seen) steps
@@ -105,16 +105,18 @@ pub record IsFound (text : List ℕ) (lines : List TextLine) (scramble : Moves) 
 -- The doubt is that of another attempt, or else that of a slip.
 pub record IsOfSteps (text : List ℕ) (lines : List TextLine) (scramble : Moves) (solution : List Turn) (told : Option Doubt) : Type 0 where
   pub it : Beside
-  pub is_found : IsFound text lines scramble solution it
+  pub is_found : IsFoundBeside text lines scramble solution it
   pub told_is : told ≡ option_or it.another it.slip
 
--- It is told by scramble and solution as they are read, which those of an attempt are that is solved.
+-- It is told by scramble and solution as they are read, which those of an attempt are that is solved. Of what can't be read
+-- there is none.
 pub record IsOfLong (text : List ℕ) (lines : List TextLine) (scramble : List ℕ) (told : Option Doubt) : Type 0 where
   pub solution : List ℕ
   pub places : List ℕ
   pub is_solution : AreWritten text Solution lines solution places
   pub of_steps : (given moves : Moves) → IsReadAs scramble given → IsReadAs solution moves →
       IsOfSteps text lines given (turns_of moves) told
+  pub of_unread : ((given moves : Moves) → IsReadAs scramble given → IsReadAs solution moves → ⊥) → told ≡ None
 
 -- What is solved is in doubt by its steps if one of them is long and not of the solution.
 abbrev pub IsDoubtBeside : (has_long : Bool) → (text : List ℕ) (lines : List TextLine) (scramble : List ℕ) (told : Option Doubt) → Type 0

@@ -1,6 +1,6 @@
 -- What makes one doubt that an attempt is read as it was meant, and the moves of some lines of a text.
-use Rattle.std.specs.Prelude.{◌≡◌, ℕ, ◌≤◌, IsOk, Option, None, Some, Result, List, length}
-use Rattle.niss_text.specs.Moves.{AreJoined}
+use Rattle.std.specs.Prelude.{◌≡◌, ℕ, ◌*◌, ◌≤◌, IsOk, Option, None, Some, Result, List, length}
+use Rattle.niss_text.specs.Moves.{AreJoined, most_bytes}
 use Rattle.niss_text.specs.declared.left_out.LeftOut.{LeftOut}
 use Rattle.niss_text.specs.declared.moves.MovesOf.{MovesOf}
 use Rattle.niss_text.specs.declared.moves.MovesPart.{MovesPart}
@@ -24,6 +24,11 @@ pub record AreWritten (text : List ℕ) (of : MovesOf) (lines : List TextLine) (
 -- A call that writes so many bytes of moves at most, and their places, has room for them.
 abbrev pub IsOkIfRoom : {X : Type 0} → (bytes : ℕ) → (out places : List ℕ) → Result X NoRoom → Type 0
 IsOkIfRoom bytes out places result = bytes ≤ length out → bytes ≤ length places → IsOk result
+
+-- The same of a call that checks an attempt of either some lines or others, each with room for its scramble and its solution.
+abbrev pub IsOkIfRoomForEither : {X : Type 0} → (own beside : List TextLine) → (out places : List ℕ) → Result X NoRoom → Type 0
+IsOkIfRoomForEither own beside out places result =
+    2 * most_bytes own ≤ length out → 2 * most_bytes own ≤ length places → 2 * most_bytes beside ≤ length out → 2 * most_bytes beside ≤ length places → IsOk result
 
 -- the number of a reason in an answer
 abbrev pub number_of : Reason → ℕ

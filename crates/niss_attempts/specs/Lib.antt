@@ -3,6 +3,7 @@ pub mod Blanks
 pub mod BareLetter
 pub mod ShownTurn
 pub mod Between
+pub mod ReadAttempt
 pub mod LostTurn
 pub mod TurnedCube
 pub mod MovedStep

@@ -57,7 +57,7 @@ abbrev pub IsMovedIn : Result Moves ReadFault → (steps bounds : List ℕ) → 
 IsMovedIn scramble steps bounds lines told = IsAtFirst bounds lines (IsMovedAt scramble steps bounds) told
 
 -- The places of an exchange are in order, among those at which steps begin and end.
-pub record IsWithin (bounds : List ℕ) (e : Exchange) : Type 0 where
+pub record IsExchange (bounds : List ℕ) (e : Exchange) : Type 0 where
   pub ordered : (e.first ≤ e.middle) × (e.middle ≤ e.last)
   pub within : e.last < length bounds
 

@@ -4,7 +4,7 @@ use Rattle.std.specs.Int.{bit_at}
 use Rattle.std.specs.List.{filter, range_with_len}
 use Rattle.niss_moves.specs.declared.fault.ReadFault.{ReadFault}
 use Rattle.niss_moves.specs.Line.{Moves}
-use Rattle.niss_moves.specs.Reader.{read_line}
+use Rattle.niss_moves.specs.Reader.{IsFed, Reader, read_line}
 use Rattle.niss_moves.specs.Solving.{solves, move_count}
 use Rattle.niss_shell.specs.Words.{most_bytes}
 use Rattle.niss_lines.specs.LineCalls.{status_number}
@@ -16,8 +16,8 @@ use Rattle.niss_attempts.specs.declared.steps.parts.How.TheVariants.{Alone, Left
 use Rattle.niss_attempts.specs.declared.steps.reading.Reading.{Reading}
 use Rattle.niss_attempts.specs.declared.steps.reading.Reading.TheVariants.{AsWritten, WithoutBrackets, InCapitals}
 use Rattle.niss_attempts.specs.declared.steps.parts.Part.{Part}
-use Rattle.niss_attempts.specs.declared.steps.parts.Found.{Found}
-use Rattle.niss_attempts.specs.declared.steps.parts.Found.TheVariants as found
+use Rattle.niss_attempts.specs.declared.steps.parts.Solving.{Solving}
+use Rattle.niss_attempts.specs.declared.steps.parts.Solving.TheVariants as solve
 use Rattle.niss_attempts.specs.declared.steps.parts.PartAnswer.{PartAnswer}
 use Rattle.niss_attempts.specs.declared.steps.sets.StepSet.{StepSet}
 
@@ -57,6 +57,10 @@ abbrev pub read_byte : Reading → ℕ → ℕ
 read_byte AsWritten byte = if byte == 10 then 32 else byte
 read_byte WithoutBrackets byte = if (byte == 10) || ((byte == 40) || (byte == 41)) then 32 else byte
 read_byte InCapitals byte = if byte == 10 then 32 else (if is_small_letter byte then byte - 32 else byte)
+
+-- nothing was read yet
+abbrev pub IsNew : Reader → Type 0
+IsNew reader = (reader.fed ≡ 0) × IsFed reader []
 
 abbrev pub part : How → (first end : ℕ) → Part
 part how first end = record { how = how; first = first; end = end }
@@ -178,10 +182,13 @@ solves_so_often scramble text bounds step thrice = solves_line scramble (read_li
 abbrev pub solves_repeated : Result Moves ReadFault → (text bounds : List ℕ) → ℕ → Bool
 solves_repeated scramble text bounds step = solves_so_often scramble text bounds step false || solves_so_often scramble text bounds step true
 
--- of so many steps this is the first that solves, if one does
+-- of so many steps this is the first of which something is true, if there is one
+abbrev pub IsFirstOf : ℕ → (ℕ → Bool → Type 0) → Option ℕ → Type 0
+IsFirstOf steps Is (Some step) = (step < steps) × Is step true × ((k : ℕ) → k < step → Is k false)
+IsFirstOf steps Is None = (k : ℕ) → k < steps → Is k false
+
 abbrev pub IsFirstStep : ℕ → (ℕ → Bool) → Option ℕ → Type 0
-IsFirstStep steps solving (Some step) = (step < steps) × (solving step ≡ true) × ((k : ℕ) → k < step → solving k ≡ false)
-IsFirstStep steps solving None = (k : ℕ) → k < steps → solving k ≡ false
+IsFirstStep steps solving first = IsFirstOf steps (λ step is. solving step ≡ is) first
 
 -- these are some of so many steps, and of the first ones
 abbrev pub AreSome : ℕ → StepSet → Type 0
@@ -194,13 +201,13 @@ IsLeast steps solving (Some set) =
 IsLeast steps solving None = (set : StepSet) → AreSome steps set → solving set ≡ false
 
 -- what is found is among so many steps
-abbrev pub IsWithin : ℕ → Found → Type 0
-IsWithin steps (found.Part p) = IsPart steps p
-IsWithin steps found.WithoutBrackets = Unit {0}
-IsWithin steps (found.EachInBrackets set) = AreSome steps set
-IsWithin steps (found.Repeated step) = step < steps
-IsWithin steps found.InCapitals = Unit {0}
-IsWithin steps found.Nothing = Unit {0}
+abbrev pub IsAmongSteps : ℕ → Solving → Type 0
+IsAmongSteps steps (solve.Part p) = IsPart steps p
+IsAmongSteps steps solve.WithoutBrackets = Unit {0}
+IsAmongSteps steps (solve.EachInBrackets set) = AreSome steps set
+IsAmongSteps steps (solve.Repeated step) = step < steps
+IsAmongSteps steps solve.InCapitals = Unit {0}
+IsAmongSteps steps solve.Nothing = Unit {0}
 
 -- what is known of so many steps if no part solves, nor all without their brackets, nor a set, and then nor one made several times
 abbrev pub NoneButRepeated : ℕ → (Part → Bool) → (Reading → Bool) → (StepSet → Bool) → Type 0
@@ -212,35 +219,35 @@ NoneAsWritten steps solving whole with_set several = NoneButRepeated steps solvi
 -- What is found of so many steps, by which parts solve, whether all do if they are read otherwise, which sets solve if each
 -- step of theirs is in brackets, and which steps do if they are made several times: the first part that solves, else all
 -- without their brackets, else the least set, else the first step, else all in capitals, else nothing.
-abbrev pub IsFound : ℕ → (Part → Bool) → (Reading → Bool) → (StepSet → Bool) → (ℕ → Bool) → Found → Type 0
-IsFound steps solving whole with_set several (found.Part p) = IsFirst steps solving (Some p)
-IsFound steps solving whole with_set several found.WithoutBrackets = IsFirst steps solving None × (whole WithoutBrackets ≡ true)
-IsFound steps solving whole with_set several (found.EachInBrackets set) =
+abbrev pub IsFirstSolving : ℕ → (Part → Bool) → (Reading → Bool) → (StepSet → Bool) → (ℕ → Bool) → Solving → Type 0
+IsFirstSolving steps solving whole with_set several (solve.Part p) = IsFirst steps solving (Some p)
+IsFirstSolving steps solving whole with_set several solve.WithoutBrackets = IsFirst steps solving None × (whole WithoutBrackets ≡ true)
+IsFirstSolving steps solving whole with_set several (solve.EachInBrackets set) =
     IsFirst steps solving None × (whole WithoutBrackets ≡ false) × IsLeast steps with_set (Some set)
-IsFound steps solving whole with_set several (found.Repeated step) =
+IsFirstSolving steps solving whole with_set several (solve.Repeated step) =
     NoneButRepeated steps solving whole with_set × IsFirstStep steps several (Some step)
-IsFound steps solving whole with_set several found.InCapitals = NoneAsWritten steps solving whole with_set several × (whole InCapitals ≡ true)
-IsFound steps solving whole with_set several found.Nothing = NoneAsWritten steps solving whole with_set several × (whole InCapitals ≡ false)
+IsFirstSolving steps solving whole with_set several solve.InCapitals = NoneAsWritten steps solving whole with_set several × (whole InCapitals ≡ true)
+IsFirstSolving steps solving whole with_set several solve.Nothing = NoneAsWritten steps solving whole with_set several × (whole InCapitals ≡ false)
 
 abbrev pub no_part : Status → PartAnswer
 no_part status = record { status = status_number status; how = 0; first = 0; last = 0; begin = 0 }
 
 -- the answer to steps that begin and end at these places
-abbrev pub answer_of : List ℕ → Found → PartAnswer
-answer_of bounds (found.Part p) =
+abbrev pub answer_of : List ℕ → Solving → PartAnswer
+answer_of bounds (solve.Part p) =
     record { status = status_number Done; how = how_number p.how; first = p.first; last = p.end - 1; begin = slice_index bounds p.first }
-answer_of bounds found.WithoutBrackets = record { status = status_number Done; how = 4; first = 0; last = number_of_steps bounds - 1; begin = 0 }
-answer_of bounds (found.EachInBrackets set) =
+answer_of bounds solve.WithoutBrackets = record { status = status_number Done; how = 4; first = 0; last = number_of_steps bounds - 1; begin = 0 }
+answer_of bounds (solve.EachInBrackets set) =
     record { status = status_number Done; how = 5; first = first_in set; last = last_in set; begin = slice_index bounds (first_in set) }
-answer_of bounds (found.Repeated step) =
+answer_of bounds (solve.Repeated step) =
     record { status = status_number Done; how = 6; first = step; last = step; begin = slice_index bounds step }
-answer_of bounds found.InCapitals = record { status = status_number Done; how = 7; first = 0; last = number_of_steps bounds - 1; begin = 0 }
-answer_of bounds found.Nothing = no_part Done
+answer_of bounds solve.InCapitals = record { status = status_number Done; how = 7; first = 0; last = number_of_steps bounds - 1; begin = 0 }
+answer_of bounds solve.Nothing = no_part Done
 
 -- This is the answer to steps that begin and end at these places, after a scramble as it is read.
 abbrev pub IsAnswerTo : Result Moves ReadFault → (steps bounds : List ℕ) → PartAnswer → Type 0
 IsAnswerTo scramble steps bounds answer =
-    (it : Found) × IsFound (number_of_steps bounds) (solves_part scramble steps bounds) (λ reading. solves_all reading scramble steps bounds)
+    (it : Solving) × IsFirstSolving (number_of_steps bounds) (solves_part scramble steps bounds) (λ reading. solves_all reading scramble steps bounds)
     (solves_with scramble steps bounds) (solves_repeated scramble steps bounds) it
     × (answer ≡ answer_of bounds it)
 

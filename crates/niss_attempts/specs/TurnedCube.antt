@@ -13,7 +13,7 @@ use Rattle.niss_text.specs.declared.text_line.TextLine.{TextLine}
 use Rattle.niss_attempts.specs.Between.{solves_between}
 use Rattle.niss_attempts.specs.Corners.{Brings, home}
 use Rattle.niss_attempts.specs.Doubts.{doubt}
-use Rattle.niss_attempts.specs.Parts.{number_of_steps}
+use Rattle.niss_attempts.specs.Parts.{IsFirstOf, number_of_steps}
 use Rattle.niss_attempts.specs.ShownTurn.{step_at, suffix_byte}
 use Rattle.niss_attempts.specs.declared.doubts.Doubt.{Doubt}
 use Rattle.niss_attempts.specs.declared.doubts.Reason.TheVariants.{Insertion}
@@ -23,16 +23,16 @@ use Rattle.niss_attempts.specs.declared.steps.corners.Around.{Around}
 use Rattle.niss_attempts.specs.declared.doubts.turned_cube.Sides.{Sides}
 
 -- the letter of a rotation about an axis, and what stands after it, or blanks
-abbrev pub letter_if : Option (Axis × Power) → ℕ
-letter_if None = 32
-letter_if (Some r) = rotation_letter r.0
+abbrev pub axis_letter : Option (Axis × Power) → ℕ
+axis_letter None = 32
+axis_letter (Some r) = rotation_letter r.0
 
 abbrev pub suffix_if : Option (Axis × Power) → ℕ
 suffix_if None = 32
 suffix_if (Some r) = suffix_byte r.1
 
 abbrev pub word_if : Option (Axis × Power) → List ℕ
-word_if r = 32 ∷ letter_if r ∷ suffix_if r ∷ []
+word_if r = 32 ∷ axis_letter r ∷ suffix_if r ∷ []
 
 -- a rotation of the whole cube as moves, between blanks: none or one by x or z, then none or one by y
 abbrev pub turned_bytes : Rotation → List ℕ
@@ -54,11 +54,6 @@ solves_turned scramble steps bounds k r = solves_between scramble steps bounds k
 abbrev pub IsTurnedAt : Result Moves ReadFault → (steps bounds : List ℕ) → ℕ → (is : Bool) → Type 0
 IsTurnedAt scramble steps bounds k true = (r : Rotation) × (r ≡ no_rotation → ⊥) × (solves_turned scramble steps bounds k r ≡ true)
 IsTurnedAt scramble steps bounds k false = (r : Rotation) → (r ≡ no_rotation → ⊥) → solves_turned scramble steps bounds k r ≡ false
-
--- of so many steps this is the first of which something is true, if there is one
-abbrev pub IsFirstOf : ℕ → (ℕ → Bool → Type 0) → Option ℕ → Type 0
-IsFirstOf count Is (Some k) = (k < count) × Is k true × ((j : ℕ) → j < k → Is j false)
-IsFirstOf count Is None = (j : ℕ) → j < count → Is j false
 
 -- the doubt that moves belong before the step of a number
 abbrev pub doubt_at_step : List TextLine → Option ℕ → Option Doubt

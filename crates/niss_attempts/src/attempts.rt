@@ -9,13 +9,13 @@ ghost use Rattle.niss_attempts.specs.Doubts.{IsOkIfRoom};
 pub(crate) mod checks;
 pub(crate) mod judged;
 pub(crate) mod known_parts;
+pub(crate) mod line_kinds;
 mod runs;
-pub(crate) mod step_lines;
 mod told;
 pub(crate) mod written;
 
 use crate::attempts::judged::Judged;
-use crate::attempts::step_lines::has_solution;
+use crate::attempts::line_kinds::has_solution;
 use crate::attempts::told::Told;
 use crate::attempts::written::{NONE, NoRoom, moves_of, place_at};
 use crate::doubts::another::doubt_of_another;

@@ -1,9 +1,9 @@
 //! All steps of an attempt, and whether they solve with bytes between two of them.
-ghost use Rattle.std.specs.Prelude.{◌≡◌, ◌<◌, ◌≤◌, ◌+◌, ◌++◌, [], Ok, length, map};
+ghost use Rattle.std.specs.Prelude.{◌≡◌, ◌<◌, ◌≤◌, ◌+◌, ◌++◌, Ok, length, map};
 ghost use Rattle.niss_moves.specs.Reader.{IsFed};
 ghost use Rattle.niss_attempts.specs.Between.{AreWhole, solves_between};
 ghost use Rattle.niss_attempts.specs.Corners.{IsAroundPart};
-ghost use Rattle.niss_attempts.specs.Parts.{read_byte};
+ghost use Rattle.niss_attempts.specs.Parts.{IsNew, read_byte};
 ghost use Rattle.niss_attempts.specs.declared.steps.reading.Reading.TheVariants.{AsWritten};
 
 pub(crate) mod bounds;
@@ -11,6 +11,7 @@ pub(crate) mod corners;
 pub(crate) mod cube_corners;
 mod dead;
 pub(crate) mod parts;
+pub(crate) mod read_attempt;
 pub(crate) mod reading;
 mod repeated;
 mod sets;
@@ -31,7 +32,7 @@ pub struct WholeSteps<'a> {
 
 /// Has a reader read all steps, with bytes between those before them and those after them.
 fn feed_between(reader: &mut LineReader, before: &[u8], bytes: &[u8], after: &[u8])
-    requires new { (reader.old.fed ≡ 0) × IsFed reader.old [] }
+    requires new { IsNew reader.old }
     requires room { length before.now + length bytes.now + length after.now < 16777216 }
     ensures { IsFed reader.new (map (read_byte AsWritten) before.now ++ bytes.now ++ map (read_byte AsWritten) after.now) }
 {

@@ -1,16 +1,16 @@
 //! Whether what stands in a part of a text of solutions solves the scramble that is known of it.
-ghost use Rattle.std.specs.Prelude.{◌≡◌, ◌≤◌, ◌<◌, ◌*◌, ◌↔◌, IfOk, IsOk, IsTrue, MatchOption, ℕ, List, [], length, slice_range};
+ghost use Rattle.std.specs.Prelude.{◌≡◌, ◌≤◌, ◌<◌, ◌↔◌, IfOk, IsTrue, MatchOption, ℕ, List, [], length, slice_range};
 ghost use Rattle.niss_text.specs.Moves.{most_bytes};
 ghost use Rattle.niss_shell.specs.Output.{line_text};
 ghost use Rattle.niss_shell.specs.declared.command.Rewriting.TheVariants.{Print};
-ghost use Rattle.niss_attempts.specs.Attempts.{IsSameCube, IsFound, IsAlone, IsMeant, IsBeside, IsOfKnown, scramble_of, begin_of, below_or_none};
+ghost use Rattle.niss_attempts.specs.Attempts.{IsSameCube, IsWrittenScramble, IsAlone, IsMeant, IsBeside, IsOfKnown, scramble_of, begin_of, below_or_none};
 ghost use Rattle.niss_lines.specs.LineFacts.{IsReadAs};
-ghost use Rattle.niss_attempts.specs.Attempts.{IsTried, attempts_from, elsewhere, is_open, solves_known, solves_some};
-ghost use Rattle.niss_attempts.specs.Doubts.{IsOkIfRoom};
+ghost use Rattle.niss_attempts.specs.Attempts.{IsTriedElsewhere, asked, attempts_from, is_open, solves_known, solves_some};
+ghost use Rattle.niss_attempts.specs.Doubts.{IsOkIfRoom, IsOkIfRoomForEither};
 
 use crate::attempts::judged::Judged;
+use crate::attempts::line_kinds::has_solution;
 use crate::attempts::runs::{Placed, Run, next_run};
-use crate::attempts::step_lines::has_solution;
 use crate::attempts::written::{NONE, NoRoom, moves_of, place_at};
 use crate::attempts::{Given, check_by, check_own};
 use crate::doubts::{Doubt, Reason, first_doubt};
@@ -32,7 +32,7 @@ pub struct Known<'a> {
 
 /// A scramble that stands in a part whose scramble is known.
 #[derive(Clone, Copy)]
-pub struct Found {
+pub struct WrittenScramble {
     /// It makes the same cube.
     pub is_same: bool,
     /// Where its first move stands, in bytes of the text, or `NONE` if it has none.
@@ -131,18 +131,18 @@ fn is_same_cube(one: &[u8], other: &[u8]) -> bool
 }
 
 /// Looks at the scramble among some lines beside one that is known.
-fn found_in(
+fn written_scramble(
     text: &[u8],
     lines: &[TextLine],
     scramble: &[u8],
     out: &mut [u8],
     places: &mut [u64],
-) -> Result<Found, NoRoom>
-    ensures is { IfOk result (λ it. IsFound text.now lines.now scramble.now it) }
+) -> Result<WrittenScramble, NoRoom>
+    ensures is { IfOk result (λ it. IsWrittenScramble text.now lines.now scramble.now it) }
     ensures room { IsOkIfRoom (most_bytes lines.now) out.old places.old result }
 {
     let count = moves_of(text, lines, MovesOf::Scramble, out, places)?;
-    Ok(Found {
+    Ok(WrittenScramble {
         is_same: is_same_cube(scramble, &out[..count]),
         at: place_at(&places[..count], 0),
     })
@@ -164,7 +164,7 @@ pub struct Solution<'a> {
 impl Solution<'_> {
     /// What is said of it once it was judged by its scramble: if another one may be meant, whether it solves one.
     fn tried(&self, judged: Judged, out: &mut [u8], places: &mut [u64]) -> Result<Judged, NoRoom>
-        ensures is { IfOk result (λ it. IsTried (is_open judged) self.now.text.now self.now.own.now (elsewhere self.now.known self.now.begin) judged it) }
+        ensures is { IfOk result (λ it. IsTriedElsewhere (is_open judged) (asked self.now) judged it) }
         ensures room { IsOkIfRoom (most_bytes self.now.own.now) out.old places.old result }
     {
         if !judged.is_open() {
@@ -187,7 +187,7 @@ impl Solution<'_> {
         out: &mut [u8],
         places: &mut [u64],
     ) -> Result<Placed, NoRoom>
-        ensures is { IfOk result (λ it. IsAlone self.now.text.now self.now.own.now self.now.lines self.now.scramble.now (elsewhere self.now.known self.now.begin) doubt it) }
+        ensures is { IfOk result (λ it. IsAlone (asked self.now) doubt it) }
         ensures room { IsOkIfRoom (most_bytes self.now.own.now) out.old places.old result }
     {
         let given = Given {
@@ -207,20 +207,18 @@ impl Solution<'_> {
     fn or_of(
         &self,
         run: Run,
-        found: Found,
+        written: WrittenScramble,
         is_meant: bool,
         out: &mut [u8],
         places: &mut [u64],
     ) -> Result<Placed, NoRoom>
-        ensures is { IfOk result (λ it. IsMeant is_meant self.now.text.now self.now.own.now self.now.others.now self.now.lines run self.now.scramble.now (elsewhere self.now.known self.now.begin) found it) }
-        ensures room { 2 * most_bytes self.now.own.now ≤ length out.old → 2 * most_bytes self.now.own.now ≤ length places.old →
-            2 * most_bytes (slice_range self.now.others.now run.first run.end) ≤ length out.old →
-            2 * most_bytes (slice_range self.now.others.now run.first run.end) ≤ length places.old → IsOk result }
+        ensures is { IfOk result (λ it. IsMeant is_meant (asked self.now) run written it) }
+        ensures room { IsOkIfRoomForEither self.now.own.now (slice_range self.now.others.now run.first run.end) out.old places.old result }
     {
         if !is_meant {
             let doubt = Doubt {
                 reason: Reason::AnotherScramble,
-                at: found.at,
+                at: written.at,
             };
             return self.alone(Some(doubt), out, places);
         }
@@ -237,15 +235,13 @@ impl Solution<'_> {
         out: &mut [u8],
         places: &mut [u64],
     ) -> Result<Placed, NoRoom>
-        ensures is { IfOk result (λ it. IsBeside self.now.text.now self.now.own.now self.now.others.now self.now.lines self.now.scramble.now (elsewhere self.now.known self.now.begin) run is_only it) }
-        ensures room { 2 * most_bytes self.now.own.now ≤ length out.old → 2 * most_bytes self.now.own.now ≤ length places.old →
-            2 * most_bytes (slice_range self.now.others.now run.first run.end) ≤ length out.old →
-            2 * most_bytes (slice_range self.now.others.now run.first run.end) ≤ length places.old → IsOk result }
+        ensures is { IfOk result (λ it. IsBeside (asked self.now) run is_only it) }
+        ensures room { IsOkIfRoomForEither self.now.own.now (slice_range self.now.others.now run.first run.end) out.old places.old result }
     {
         let lines = stretch(self.others, run.first, run.end);
-        let found = found_in(self.text, lines, self.scramble, out, places)?;
-        let is_meant = is_only && (found.is_same && !has_solution(self.own));
-        self.or_of(run, found, is_meant, out, places)
+        let written = written_scramble(self.text, lines, self.scramble, out, places)?;
+        let is_meant = is_only && (written.is_same && !has_solution(self.own));
+        self.or_of(run, written, is_meant, out, places)
     }
 
     /// What is said of it, with the attempts from a line on that have a scramble.
@@ -257,10 +253,8 @@ impl Solution<'_> {
         places: &mut [u64],
     ) -> Result<Placed, NoRoom>
         requires { from ≤ length self.now.others.now }
-        ensures is { IfOk result (λ it. IsOfKnown self.now.text.now self.now.own.now self.now.others.now self.now.lines self.now.scramble.now
-            (elsewhere self.now.known self.now.begin) (attempts_from from self.now.others.now) it) }
-        ensures room { 2 * most_bytes self.now.own.now ≤ length out.old → 2 * most_bytes self.now.own.now ≤ length places.old →
-            2 * most_bytes self.now.others.now ≤ length out.old → 2 * most_bytes self.now.others.now ≤ length places.old → IsOk result }
+        ensures is { IfOk result (λ it. IsOfKnown (asked self.now) (attempts_from from self.now.others.now) it) }
+        ensures room { IsOkIfRoomForEither self.now.own.now self.now.others.now out.old places.old result }
     {
         match next_run(self.others, from) {
             None => self.alone(first_doubt(self.own), out, places),

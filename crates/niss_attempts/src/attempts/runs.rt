@@ -1,15 +1,10 @@
 //! Which of the lines of a text are its attempts.
 ghost use Rattle.std.specs.Prelude.{◌≡◌, ◌≤◌, length};
-ghost use Rattle.std.specs.List.{list_any};
-ghost use Rattle.niss_text.specs.Moves.{is_wanted};
-ghost use Rattle.niss_text.specs.declared.moves.MovesOf.TheVariants.{Scramble};
 ghost use Rattle.niss_attempts.specs.Runs.{Alike, FindsRun};
 
 use crate::attempts::judged::Judged;
+use crate::attempts::line_kinds::has_scramble;
 use niss_text::TextLine;
-
-/// The kind of a line of a scramble, by the number of `niss_text`.
-const SCRAMBLE_LINE: u8 = 2;
 
 /// The lines of an attempt among others: which is the first one, from 0, and which the first after them.
 #[repr(C)]
@@ -42,13 +37,6 @@ fn alike(lines: &[TextLine], attempt: usize) -> usize
         rest = after;
     }
     count
-}
-
-/// Whether one of some lines is of a scramble.
-fn has_scramble(lines: &[TextLine]) -> bool
-    ensures { result ≡ list_any (is_wanted Scramble) lines.now }
-{
-    lines.iter().any(|line| line.kind == SCRAMBLE_LINE)
 }
 
 /// The first attempt with a scramble among lines from one of them on.

@@ -5,7 +5,7 @@ ghost use Rattle.niss_text.specs.declared.text_line.TextLine.{TextLine};
 ghost use Rattle.niss_attempts.specs.Another.{IsBegun, IsBegunAgain, IsSolvedBy, is_long, may_begin, most_lines_tried};
 ghost use Rattle.niss_attempts.specs.Doubts.{IsOkIfRoom};
 
-use crate::attempts::step_lines::{has_solution, is_of_solution, length_of_moves};
+use crate::attempts::line_kinds::{has_solution, is_of_solution, length_of_moves};
 use crate::attempts::written::{NoRoom, moves_of};
 use crate::doubts::Doubt;
 use niss_lines::check_line;

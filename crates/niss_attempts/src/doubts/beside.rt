@@ -9,14 +9,14 @@ ghost use Rattle.niss_moves.specs.declared.turn.Turn.{Turn};
 ghost use Rattle.niss_text.specs.Moves.{is_wanted, most_bytes};
 ghost use Rattle.niss_text.specs.declared.moves.MovesOf.TheVariants.{EachStep};
 ghost use Rattle.niss_text.specs.declared.text_line.TextLine.{TextLine};
-ghost use Rattle.niss_attempts.specs.Beside.{AreNear, IsDoubtBeside, IsFound, IsOfLong, IsSeen, IsSlip, is_long_other, turns_of, undoes};
+ghost use Rattle.niss_attempts.specs.Beside.{AreNear, IsDoubtBeside, IsFoundBeside, IsOfLong, IsSeen, IsSlip, is_long_other, turns_of, undoes};
 ghost use Rattle.niss_attempts.specs.Doubts.{IsOkIfRoom, doubt};
 ghost use Rattle.niss_lines.specs.LineFacts.{IsReadAs};
 ghost use Rattle.niss_attempts.specs.declared.doubts.Reason.TheVariants.{AnotherAttempt, SeveralSolutions};
 
 mod near;
 
-use crate::attempts::step_lines::{is_step, length_of_moves};
+use crate::attempts::line_kinds::{is_step, length_of_moves};
 use crate::attempts::written::{NoRoom, moves_of};
 use crate::doubts::beside::near::are_near;
 use crate::doubts::{Doubt, Reason};
@@ -85,7 +85,7 @@ fn turns_of(line: &Niss) -> Faces
 impl Beside {
     /// What is found in no steps.
     fn nothing() -> Beside
-        ensures { (text : List ℕ) (scramble : Moves) (solution : List Turn) → IsFound text [] scramble solution result }
+        ensures { (text : List ℕ) (scramble : Moves) (solution : List Turn) → IsFoundBeside text [] scramble solution result }
     {
         Beside {
             begins_apart: false,
@@ -124,8 +124,8 @@ impl Beside {
 
     /// The same with a step before the others, of which this is seen.
     fn with(self, line: &TextLine, seen: Seen) -> Beside
-        ensures { (text : List ℕ) (lines : List TextLine) (scramble : Moves) (solution : List Turn) → IsFound text lines scramble solution self →
-            is_wanted EachStep line.now ≡ true → IsSeen (is_long_other line.now) text line.now scramble solution seen → IsFound text (line.now ∷ lines) scramble solution result }
+        ensures { (text : List ℕ) (lines : List TextLine) (scramble : Moves) (solution : List Turn) → IsFoundBeside text lines scramble solution self →
+            is_wanted EachStep line.now ≡ true → IsSeen (is_long_other line.now) text line.now scramble solution seen → IsFoundBeside text (line.now ∷ lines) scramble solution result }
     {
         Beside {
             begins_apart: seen.is_apart,
@@ -196,7 +196,7 @@ impl Solved<'_> {
         out: &mut [u8],
         places: &mut [u64],
     ) -> Result<Beside, NoRoom>
-        ensures is { IfOk result (λ it. IsFound self.now.text.now lines.now self.now.scramble.now self.now.solution.now it) }
+        ensures is { IfOk result (λ it. IsFoundBeside self.now.text.now lines.now self.now.scramble.now self.now.solution.now it) }
         ensures room { IsOkIfRoom (most_bytes lines.now) out.old places.old result }
     {
         let mut found = Beside::nothing();

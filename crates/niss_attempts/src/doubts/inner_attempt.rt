@@ -4,7 +4,7 @@ ghost use Rattle.niss_text.specs.Moves.{most_bytes};
 ghost use Rattle.niss_attempts.specs.InnerAttempt.{IsBegunIn, IsBegunWithin, may_be_scramble};
 ghost use Rattle.niss_attempts.specs.Doubts.{IsOkIfRoom};
 
-use crate::attempts::step_lines::{has_solution, is_step, length_of_moves};
+use crate::attempts::line_kinds::{has_solution, is_step, length_of_moves};
 use crate::attempts::written::{NoRoom, moves_of};
 use crate::doubts::Doubt;
 use crate::doubts::another::{Sought, first_begun, is_long, is_solved_by};

@@ -2,7 +2,7 @@
 ghost use Rattle.std.specs.Prelude.{◌≡◌, ◌<◌, ◌+◌, ◌++◌, ℕ, List, Ok, false, true, length, map};
 ghost use Rattle.niss_moves.specs.Reader.{IsFed};
 ghost use Rattle.niss_attempts.specs.Between.{AreWhole};
-ghost use Rattle.niss_attempts.specs.MovedStep.{AreFronts, AreStretches, IsMovedAmong, IsMovedAt, IsMovedIn, IsWithin, solves_exchanged, solves_moved, with_blank};
+ghost use Rattle.niss_attempts.specs.MovedStep.{AreFronts, AreStretches, IsMovedAmong, IsMovedAt, IsMovedIn, IsExchange, solves_exchanged, solves_moved, with_blank};
 ghost use Rattle.niss_attempts.specs.Parts.{read_byte};
 ghost use Rattle.niss_attempts.specs.declared.steps.reading.Reading.TheVariants.{AsWritten};
 
@@ -61,9 +61,9 @@ fn fronts_of(whole: &WholeSteps) -> ArrayVec<StepCorners, MOST_BOUNDS>
 }
 
 /// Whether all steps may solve if some change places, by what they do to the corners.
-fn may_solve(whole: &WholeSteps, exchange: &Exchange, stretches: &Stretches) -> bool
+fn may_exchange(whole: &WholeSteps, exchange: &Exchange, stretches: &Stretches) -> bool
     requires whole { AreWhole whole.now }
-    requires within { IsWithin whole.now.bounds.now exchange.now }
+    requires within { IsExchange whole.now.bounds.now exchange.now }
     requires stretches { whole.now.corners.now.are_lines ≡ true → AreStretches whole.now.steps.now whole.now.bounds.now exchange.now stretches.now }
     ensures { result ≡ false → solves_exchanged (Ok whole.now.scramble.now) whole.now.steps.now whole.now.bounds.now exchange.now ≡ false }
 {
@@ -75,9 +75,9 @@ fn may_solve(whole: &WholeSteps, exchange: &Exchange, stretches: &Stretches) -> 
 }
 
 /// Whether they solve so.
-fn solve(whole: &WholeSteps, exchange: &Exchange) -> bool
+fn solves_exchanged(whole: &WholeSteps, exchange: &Exchange) -> bool
     requires whole { AreWhole whole.now }
-    requires within { IsWithin whole.now.bounds.now exchange.now }
+    requires within { IsExchange whole.now.bounds.now exchange.now }
     ensures { result ≡ solves_exchanged (Ok whole.now.scramble.now) whole.now.steps.now whole.now.bounds.now exchange.now }
 {
     let bounds = whole.bounds;
@@ -94,13 +94,13 @@ fn solve(whole: &WholeSteps, exchange: &Exchange) -> bool
 }
 
 /// The same. Most exchanges are seen not to solve by what they do to the corners.
-fn solve_exchanged(whole: &WholeSteps, exchange: &Exchange, stretches: &Stretches) -> bool
+fn exchange_solves(whole: &WholeSteps, exchange: &Exchange, stretches: &Stretches) -> bool
     requires whole { AreWhole whole.now }
-    requires within { IsWithin whole.now.bounds.now exchange.now }
+    requires within { IsExchange whole.now.bounds.now exchange.now }
     requires stretches { whole.now.corners.now.are_lines ≡ true → AreStretches whole.now.steps.now whole.now.bounds.now exchange.now stretches.now }
     ensures { result ≡ solves_exchanged (Ok whole.now.scramble.now) whole.now.steps.now whole.now.bounds.now exchange.now }
 {
-    may_solve(whole, exchange, stretches) && solve(whole, exchange)
+    may_exchange(whole, exchange, stretches) && solves_exchanged(whole, exchange)
 }
 
 /// Whether all steps solve with one further up, but not right before the one above it.
@@ -127,7 +127,7 @@ fn is_moved_up(whole: &WholeSteps, fronts: &[StepCorners], step: usize) -> bool
             early: steps[step],
             late,
         };
-        if solve_exchanged(whole, &exchange, &stretches) {
+        if exchange_solves(whole, &exchange, &stretches) {
             return true;
         }
     }
@@ -155,7 +155,7 @@ fn is_moved_down(whole: &WholeSteps, fronts: &[StepCorners], step: usize) -> boo
             early,
             late: steps[step],
         };
-        if solve_exchanged(whole, &exchange, &stretches) {
+        if exchange_solves(whole, &exchange, &stretches) {
             return true;
         }
     }

@@ -13,7 +13,7 @@ ghost use Rattle.niss_attempts.specs.Parts.{most_bounds};
 
 mod bare_letter;
 
-use crate::attempts::step_lines::is_step;
+use crate::attempts::line_kinds::is_step;
 use crate::doubts::shown_turn::bare_letter::{letter_between, may_stand};
 use crate::doubts::turn_words::{byte_at, is_within, may_begin, stands_at};
 use crate::doubts::{Doubt, Reason};
@@ -158,10 +158,7 @@ fn one_if(place: Option<usize>) -> usize
     ensures is { result ≡ length (option_to_list place) }
     ensures few { result ≤ 1 }
 {
-    match place {
-        Some(_) => 1,
-        None => 0,
-    }
+    place.map_or(0, |_| 1)
 }
 
 /// How many signs stand beside the moves of a line.

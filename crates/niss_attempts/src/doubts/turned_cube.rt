@@ -48,7 +48,7 @@ impl Sides {
 }
 
 /// Whether all steps may solve if the cube is held so from a place on, by what they do to the corners.
-fn may_solve(around: &Around, sides: &Sides, hold: &Hold) -> bool
+fn may_hold(around: &Around, sides: &Sides, hold: &Hold) -> bool
     requires sides { AreSides around.now sides.now }
     requires hold { Brings hold.now.corners.to (spelling hold.now.rotation) }
     ensures { (scramble : Moves) (steps bounds : List ℕ) (number : ℕ) → IsAroundBorder scramble steps bounds number around.now →
@@ -69,7 +69,7 @@ fn is_turned_at(whole: &WholeSteps, around: &Around, number: usize) -> bool
     let sides = Sides::of(around);
     for at in 0..NUMBER_OF_HOLDS {
         let hold = hold_numbered(at);
-        if !may_solve(around, &sides, &hold) {
+        if !may_hold(around, &sides, &hold) {
             continue;
         }
         if whole.solve_with(number, &turned_bytes(hold.rotation)) {

@@ -11,10 +11,8 @@ use crate::doubts::moved_step::moved_step;
 use crate::doubts::shown_turn::count_steps;
 use crate::doubts::turned_cube::turned_cube;
 use crate::steps::WholeSteps;
-use crate::steps::bounds::bounds_of;
-use crate::steps::corners::AttemptCorners;
-use crate::steps::parts::{MOST_STEP_BYTES, answer_to, are_too_long, first_bytes};
-use niss_lines::read_by;
+use crate::steps::parts::answer_to;
+use crate::steps::read_attempt::{MOST_STEP_BYTES, ReadAttempt};
 use niss_moves::LineReader;
 use niss_shell::MOST_BYTES;
 use niss_text::TextLine;
@@ -81,23 +79,11 @@ pub(crate) fn doubt_of_written(
 ) -> Option<Doubt>
     ensures { IsDoubtOfWritten scramble.now steps.now places.now text.now lines.now result }
 {
-    let bounds = bounds_of(steps);
-    let end = bounds[bounds.len() - 1];
-    if are_too_long(scramble, end) {
-        return None;
-    }
     let mut reader = LineReader::new();
-    let Ok(moves) = read_by(&mut reader, scramble) else {
+    let Ok(attempt) = ReadAttempt::read(&mut reader, scramble, steps) else {
         return None;
     };
-    let steps_read = first_bytes(steps, end);
-    let corners = AttemptCorners::of(moves, steps_read, &bounds);
-    let whole = WholeSteps {
-        scramble: moves,
-        steps: steps_read,
-        bounds: &bounds,
-        corners: &corners,
-    };
-    let is_beyond = is_beyond(scramble, steps, &bounds, lines);
+    let whole = attempt.whole();
+    let is_beyond = is_beyond(scramble, steps, whole.bounds, lines);
     doubt_of_read(&whole, places, is_beyond, text, lines)
 }

@@ -208,7 +208,7 @@ pub fn renew(steps: &[StepCorners], tails: &mut [Corners; MOST_BOUNDS], set: Ste
 
 /// Whether a line whose moves bring corners so may solve a scramble: whether all together only turn the whole cube.
 #[inline(never)]
-fn may_solve(scramble: &Corners, line: &Corners) -> bool
+fn corners_may_solve(scramble: &Corners, line: &Corners) -> bool
     ensures { (moves : Moves) (bytes : List ℕ) → Brings scramble.now.to (joined_moves moves) → IsTail bytes line.now.to →
         result ≡ false → solves_line (Ok moves) (read_line bytes) ≡ false }
 {
@@ -260,7 +260,7 @@ impl AttemptCorners {
         ensures { (scramble : Moves) (bytes : List ℕ) → Brings self.now.scramble.to (joined_moves scramble) →
             (self.now.are_lines ≡ true → IsTail bytes line.now.to) → result ≡ false → solves_line (Ok scramble) (read_line bytes) ≡ false }
     {
-        !self.are_lines || may_solve(&self.scramble, line)
+        !self.are_lines || corners_may_solve(&self.scramble, line)
     }
 }
 
@@ -331,7 +331,7 @@ impl<'a> Around<'a> {
 
     /// Whether that line may solve the scramble.
     #[inline(never)]
-    pub fn may_solve(&self, how: How) -> bool
+    pub fn may_arrange(&self, how: How) -> bool
         ensures { (scramble : Moves) (text bounds : List ℕ) (first end : ℕ) → IsAroundPart scramble text bounds first end self.now →
             result ≡ false → solves_part (Ok scramble) text bounds (part how first end) ≡ false }
     {

@@ -1,26 +1,21 @@
 //! Whether a part of the steps of an attempt solves its scramble.
-ghost use Rattle.std.specs.Prelude.{◌≡◌, ◌<◌, ◌≤◌, ◌+◌, ◌-◌, [], Ok, false, length, map, take};
-ghost use Rattle.niss_moves.specs.Reader.{IsFed, read_line};
-ghost use Rattle.niss_attempts.specs.Parts.{read_byte, how_number, number_of_steps, arranged, solves_all, solves_part, solves_repeated, solves_with, part, most_step_bytes, most_bounds};
-ghost use Rattle.niss_shell.specs.Words.{most_bytes};
-ghost use Rattle.niss_attempts.specs.Corners.{AreBounds, IsAroundPart};
+ghost use Rattle.std.specs.Prelude.{◌≡◌, ◌<◌, ◌≤◌, ◌+◌, Ok, length, map};
+ghost use Rattle.niss_moves.specs.Reader.{IsFed};
+ghost use Rattle.niss_attempts.specs.Parts.{read_byte, how_number, number_of_steps, arranged, solves_all, solves_part, solves_repeated, solves_with, part, most_bounds};
+ghost use Rattle.niss_attempts.specs.Corners.{IsAroundPart};
 ghost use Rattle.niss_attempts.specs.Between.{AreWhole};
-ghost use Rattle.niss_attempts.specs.Parts.{IsAnswerTo, IsHow, IsFirst, IsFirstFrom, IsFound, IsWithin, TellsPart, answer_of, are_too_long, no_part};
+ghost use Rattle.niss_attempts.specs.Parts.{IsAnswerTo, IsNew, IsHow, IsFirst, IsFirstFrom, IsFirstSolving, IsAmongSteps, TellsPart, answer_of, no_part};
 ghost use Rattle.niss_attempts.specs.declared.steps.reading.Reading.TheVariants.{AsWritten};
 
 use crate::steps::WholeSteps;
-use crate::steps::bounds::bounds_of;
-use crate::steps::corners::{Around, AttemptCorners};
+use crate::steps::corners::Around;
+use crate::steps::read_attempt::{ReadAttempt, Unread};
 use crate::steps::reading::{Reading, feed, solves_otherwise, solves_so};
 use crate::steps::repeated::repeated_step;
 use crate::steps::sets::{StepSet, feed_step, least_set};
 use crate::stretch::stretch;
-use niss_lines::{Status, read_by};
-use niss_moves::{LineReader, Niss};
-use niss_shell::MOST_BYTES;
-
-/// The most bytes that steps have in which a part is looked for.
-pub const MOST_STEP_BYTES: usize = 65_536;
+use niss_lines::Status;
+use niss_moves::LineReader;
 
 /// What `solving_part` returns.
 #[repr(C)]
@@ -73,9 +68,9 @@ pub struct Part {
     pub end: usize,
 }
 
-/// What is found.
+/// What has steps solve a scramble.
 #[derive(Clone, Copy)]
-pub enum Found {
+pub enum Solving {
     Part(Part),
     /// All steps solve without their brackets.
     WithoutBrackets,
@@ -88,17 +83,9 @@ pub enum Found {
     Nothing,
 }
 
-/// The first bytes of a text, so many at most.
-pub(crate) fn first_bytes(text: &[u8], count: usize) -> &[u8]
-    ensures is { result.now ≡ take count text.now }
-    ensures few { length result.now ≤ count }
-{
-    &text[..count.min(text.len())]
-}
-
 /// Has a reader read all steps, in three parts, and does with the second one what is to be done.
 fn feed_part(reader: &mut LineReader, how: How, before: &[u8], own: &[u8], after: &[u8])
-    requires new { (reader.old.fed ≡ 0) × IsFed reader.old [] }
+    requires new { IsNew reader.old }
     requires room { length before.now + length own.now + length after.now < 16777214 }
     ensures { IsFed reader.new (arranged how (map (read_byte AsWritten) before.now) (map (read_byte AsWritten) own.now) (map (read_byte AsWritten) after.now)) }
 {
@@ -137,7 +124,7 @@ fn part_solves(whole: &WholeSteps, part: Part, around: &Around) -> bool
     requires around { IsAroundPart whole.now.scramble.now whole.now.steps.now whole.now.bounds.now part.first part.end around.now }
     ensures { result ≡ solves_part (Ok whole.now.scramble.now) whole.now.steps.now whole.now.bounds.now part }
 {
-    around.may_solve(part.how) && solves_part(whole, part)
+    around.may_arrange(part.how) && solves_part(whole, part)
 }
 
 /// What is done with steps so that the scramble is solved, if anything does. The part names the steps.
@@ -206,29 +193,29 @@ fn first_part(whole: &WholeSteps) -> Option<Part>
     None
 }
 
-/// What is found in all steps.
-fn found_in(whole: &WholeSteps) -> Found
+/// What first has all steps solve the scramble: a part of them, or else all in another form.
+fn first_solving(whole: &WholeSteps) -> Solving
     requires whole { AreWhole whole.now }
-    ensures { IsFound (number_of_steps whole.now.bounds.now) (solves_part (Ok whole.now.scramble.now) whole.now.steps.now whole.now.bounds.now)
+    ensures { IsFirstSolving (number_of_steps whole.now.bounds.now) (solves_part (Ok whole.now.scramble.now) whole.now.steps.now whole.now.bounds.now)
         (λ reading. solves_all reading (Ok whole.now.scramble.now) whole.now.steps.now whole.now.bounds.now) (solves_with (Ok whole.now.scramble.now) whole.now.steps.now whole.now.bounds.now)
         (solves_repeated (Ok whole.now.scramble.now) whole.now.steps.now whole.now.bounds.now) result }
 {
     if let Some(part) = first_part(whole) {
-        return Found::Part(part);
+        return Solving::Part(part);
     }
     if solves_otherwise(whole, Reading::WithoutBrackets) {
-        return Found::WithoutBrackets;
+        return Solving::WithoutBrackets;
     }
     if let Some(set) = least_set(whole) {
-        return Found::EachInBrackets(set);
+        return Solving::EachInBrackets(set);
     }
     if let Some(step) = repeated_step(whole) {
-        return Found::Repeated(step);
+        return Solving::Repeated(step);
     }
     if solves_otherwise(whole, Reading::InCapitals) {
-        Found::InCapitals
+        Solving::InCapitals
     } else {
-        Found::Nothing
+        Solving::Nothing
     }
 }
 
@@ -237,53 +224,11 @@ pub(crate) fn answer_to(whole: &WholeSteps) -> PartAnswer
     requires whole { AreWhole whole.now }
     ensures { IsAnswerTo (Ok whole.now.scramble.now) whole.now.steps.now whole.now.bounds.now result }
 {
-    PartAnswer::of(found_in(whole), whole.bounds)
-}
-
-/// What is found in steps that begin and end at these places.
-fn found_between(scramble: &Niss, steps: &[u8], bounds: &[usize]) -> Found
-    requires some { (0 < length bounds.now) × (length bounds.now ≤ most_bounds) }
-    requires bounds { AreBounds bounds.now }
-    requires room { length steps.now ≤ most_step_bytes }
-    ensures { IsFound (number_of_steps bounds.now) (solves_part (Ok scramble.now) steps.now bounds.now)
-        (λ reading. solves_all reading (Ok scramble.now) steps.now bounds.now) (solves_with (Ok scramble.now) steps.now bounds.now)
-        (solves_repeated (Ok scramble.now) steps.now bounds.now) result }
-{
-    let corners = AttemptCorners::of(scramble, steps, bounds);
-    found_in(&WholeSteps {
-        scramble,
-        steps,
-        bounds,
-        corners: &corners,
-    })
-}
-
-/// What is found in steps after a scramble: nothing if that has a fault.
-fn found_after(scramble: &[u8], text: &[u8], bounds: &[usize]) -> Found
-    requires some { (0 < length bounds.now) × (length bounds.now ≤ most_bounds) }
-    requires bounds { AreBounds bounds.now }
-    requires room { (length scramble.now ≤ most_bytes) × (length text.now ≤ most_step_bytes) }
-    ensures { IsFound (number_of_steps bounds.now) (solves_part (read_line scramble.now) text.now bounds.now)
-        (λ reading. solves_all reading (read_line scramble.now) text.now bounds.now) (solves_with (read_line scramble.now) text.now bounds.now)
-        (solves_repeated (read_line scramble.now) text.now bounds.now) result }
-{
-    let mut reader = LineReader::new();
-    match read_by(&mut reader, scramble) {
-        Ok(scramble) => found_between(scramble, text, bounds),
-        Err(_) => Found::Nothing,
-    }
-}
-
-/// Whether a scramble or steps up to their last end have too many bytes.
-pub(crate) fn are_too_long(scramble: &[u8], end: usize) -> bool
-    ensures are { result ≡ are_too_long scramble.now end }
-    ensures else_fit { result ≡ false → (length scramble.now ≤ most_bytes) × (end ≤ most_step_bytes) }
-{
-    scramble.len() > MOST_BYTES || end > MOST_STEP_BYTES
+    PartAnswer::of(first_solving(whole), whole.bounds)
 }
 
 impl PartAnswer {
-    /// The answer if nothing is found.
+    /// The answer if nothing solves.
     fn nothing(status: Status) -> PartAnswer
         ensures { result ≡ no_part status }
     {
@@ -297,45 +242,45 @@ impl PartAnswer {
     }
 
     /// The answer to steps that begin and end at these places.
-    fn of(found: Found, bounds: &[usize]) -> PartAnswer
+    fn of(solving: Solving, bounds: &[usize]) -> PartAnswer
         requires few { (0 < length bounds.now) × (length bounds.now ≤ most_bounds) }
-        requires part { IsWithin (number_of_steps bounds.now) found }
-        ensures { result ≡ answer_of bounds.now found }
+        requires part { IsAmongSteps (number_of_steps bounds.now) solving }
+        ensures { result ≡ answer_of bounds.now solving }
     {
         let done = PartAnswer::nothing(Status::Done);
-        match found {
-            Found::Part(part) => PartAnswer {
+        match solving {
+            Solving::Part(part) => PartAnswer {
                 how: part.how.number(),
                 first: part.first as u8,
                 last: (part.end - 1) as u8,
                 begin: bounds[part.first],
                 ..done
             },
-            Found::WithoutBrackets => PartAnswer {
+            Solving::WithoutBrackets => PartAnswer {
                 how: 4,
                 last: (bounds.len() - 1).saturating_sub(1) as u8,
                 ..done
             },
-            Found::EachInBrackets(set) => PartAnswer {
+            Solving::EachInBrackets(set) => PartAnswer {
                 how: 5,
                 first: set.first() as u8,
                 last: set.last() as u8,
                 begin: bounds[set.first()],
                 ..done
             },
-            Found::Repeated(step) => PartAnswer {
+            Solving::Repeated(step) => PartAnswer {
                 how: 6,
                 first: step as u8,
                 last: step as u8,
                 begin: bounds[step],
                 ..done
             },
-            Found::InCapitals => PartAnswer {
+            Solving::InCapitals => PartAnswer {
                 how: 7,
                 last: (bounds.len() - 1).saturating_sub(1) as u8,
                 ..done
             },
-            Found::Nothing => done,
+            Solving::Nothing => done,
         }
     }
 }
@@ -348,11 +293,10 @@ impl PartAnswer {
 pub fn solving_part(scramble: &[u8], steps: &[u8]) -> PartAnswer
     ensures { TellsPart scramble.now steps.now result }
 {
-    let bounds = bounds_of(steps);
-    let end = bounds[bounds.len() - 1];
-    if are_too_long(scramble, end) {
-        return PartAnswer::nothing(Status::Stopped);
+    let mut reader = LineReader::new();
+    match ReadAttempt::read(&mut reader, scramble, steps) {
+        Ok(attempt) => answer_to(&attempt.whole()),
+        Err(Unread::TooLong) => PartAnswer::nothing(Status::Stopped),
+        Err(Unread::Faulty) => PartAnswer::nothing(Status::Done),
     }
-    let found = found_after(scramble, first_bytes(steps, end), &bounds);
-    PartAnswer::of(found, &bounds)
 }

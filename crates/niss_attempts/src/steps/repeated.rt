@@ -1,10 +1,10 @@
 //! A step of an attempt that, made twice or three times, has it solve its scramble.
-ghost use Rattle.std.specs.Prelude.{◌≡◌, ◌<◌, ◌≤◌, ◌+◌, ◌*◌, ◌++◌, ℕ, List, [], Ok, IfSome, false, length, map};
+ghost use Rattle.std.specs.Prelude.{◌≡◌, ◌<◌, ◌≤◌, ◌+◌, ◌*◌, ◌++◌, ℕ, List, Ok, IfSome, false, length, map};
 ghost use Rattle.niss_moves.specs.Line.{Moves};
 ghost use Rattle.niss_moves.specs.Reader.{IsFed};
 ghost use Rattle.niss_attempts.specs.Corners.{IsAroundPart, Reads};
 ghost use Rattle.niss_attempts.specs.Between.{AreWhole};
-ghost use Rattle.niss_attempts.specs.Parts.{IsFirstStep, bare_step, number_of_steps, read_byte, repeated, solves_repeated, solves_so_often};
+ghost use Rattle.niss_attempts.specs.Parts.{IsFirstStep, IsNew, bare_step, number_of_steps, read_byte, repeated, solves_repeated, solves_so_often};
 ghost use Rattle.niss_attempts.specs.declared.steps.reading.Reading.TheVariants.{AsWritten, WithoutBrackets};
 
 use crate::steps::WholeSteps;
@@ -29,7 +29,7 @@ fn feed_times(reader: &mut LineReader, step: &[u8], thrice: bool)
 
 /// Has a reader read all steps, of which one is made so often.
 fn feed_repeated(reader: &mut LineReader, before: &[u8], step: &[u8], after: &[u8], thrice: bool)
-    requires new { (reader.old.fed ≡ 0) × IsFed reader.old [] }
+    requires new { IsNew reader.old }
     requires room { length before.now + 3 * length step.now + length after.now < 16777214 }
     ensures { IsFed reader.new (map (read_byte AsWritten) before.now ++ repeated thrice (map (read_byte WithoutBrackets) step.now) ++ map (read_byte AsWritten) after.now) }
 {

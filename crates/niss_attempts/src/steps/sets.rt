@@ -1,8 +1,8 @@
 //! Steps of an attempt that, each put in brackets of its own, have it solve its scramble.
-ghost use Rattle.std.specs.Prelude.{◌≡◌, ◌<◌, ◌≤◌, ◌+◌, ◌-◌, ◌^◌, ◌++◌, ℕ, List, [], Ok, length, map};
+ghost use Rattle.std.specs.Prelude.{◌≡◌, ◌<◌, ◌≤◌, ◌+◌, ◌-◌, ◌^◌, ◌++◌, ℕ, List, Ok, length, map};
 ghost use Rattle.niss_moves.specs.Reader.{IsFed};
 ghost use Rattle.niss_attempts.specs.Between.{AreWhole};
-ghost use Rattle.niss_attempts.specs.Parts.{IsLeast, has, number_of_steps, first_in, last_in, in_brackets_if, line_with, solves_with, read_byte};
+ghost use Rattle.niss_attempts.specs.Parts.{IsLeast, IsNew, has, number_of_steps, first_in, last_in, in_brackets_if, line_with, solves_with, read_byte};
 ghost use Rattle.niss_attempts.specs.declared.steps.reading.Reading.TheVariants.{AsWritten};
 
 use crate::steps::WholeSteps;
@@ -70,7 +70,7 @@ pub fn feed_step(reader: &mut LineReader, step: &[u8], in_brackets: bool)
 
 /// Has a reader read all steps, of which some stand in brackets.
 fn feed_steps(reader: &mut LineReader, whole: &WholeSteps, set: StepSet)
-    requires new { (reader.old.fed ≡ 0) × IsFed reader.old [] }
+    requires new { IsNew reader.old }
     requires whole { AreWhole whole.now }
     ensures { IsFed reader.new (line_with whole.now.steps.now whole.now.bounds.now set) }
 {

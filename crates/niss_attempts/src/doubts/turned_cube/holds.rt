@@ -2,7 +2,7 @@
 ghost use Rattle.std.specs.Prelude.{◌≡◌, ◌<◌};
 ghost use Rattle.niss_moves.specs.Rotations.{about_vertical, spelling};
 ghost use Rattle.niss_attempts.specs.Corners.{Brings};
-ghost use Rattle.niss_attempts.specs.TurnedCube.{hold_numbered, letter_if, suffix_if, turned_bytes};
+ghost use Rattle.niss_attempts.specs.TurnedCube.{hold_numbered, axis_letter, suffix_if, turned_bytes};
 
 use crate::doubts::turn_words::suffix;
 use crate::steps::cube_corners::Corners;
@@ -32,7 +32,7 @@ macro_rules! hold {
 pub const NUMBER_OF_HOLDS: usize = 23;
 
 /// All of them.
-static HOLDS: [Hold; 23] = [
+static HOLDS: [Hold; NUMBER_OF_HOLDS] = [
     hold!(U, Some(Power::Quarter); [1, 5, 3, 7, 0, 4, 2, 6]),
     hold!(U, Some(Power::Half); [5, 4, 7, 6, 1, 0, 3, 2]),
     hold!(U, Some(Power::Counter); [4, 0, 6, 2, 5, 1, 7, 3]),
@@ -68,8 +68,8 @@ pub fn hold_numbered(number: usize) -> Hold
 }
 
 /// The letter of a rotation about an axis, or a blank.
-fn letter_if(rotation: Option<(Axis, Power)>) -> u8
-    ensures { result ≡ letter_if rotation }
+fn axis_letter(rotation: Option<(Axis, Power)>) -> u8
+    ensures { result ≡ axis_letter rotation }
 {
     match rotation {
         Some((Axis::Ud, _)) => b'y',
@@ -104,10 +104,10 @@ pub fn turned_bytes(rotation: Rotation) -> [u8; 7]
     let spin = about_vertical(rotation.vertical);
     [
         b' ',
-        letter_if(tilt),
+        axis_letter(tilt),
         suffix_if(tilt),
         b' ',
-        letter_if(spin),
+        axis_letter(spin),
         suffix_if(spin),
         b' ',
     ]

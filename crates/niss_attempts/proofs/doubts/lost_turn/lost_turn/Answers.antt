@@ -2,7 +2,7 @@ use Rattle.std.proofs.Common.{None, Ok, Option, subst}
 use Rattle.niss_attempts.specs.LostTurn.{IsLostAt}
 use Rattle.niss_attempts.specs.ShownTurn.{shown_at, shown_between}
 use Rattle.niss_attempts.specs.declared.doubts.Doubt.{Doubt}
-use Rattle.niss_attempts.proofs.LostLemmas.{border_told, none_more}
+use Rattle.niss_attempts.proofs.LostLemmas.{border_told, one_more}
 use Rattle.niss_attempts.proofs.doubts.lost_turn.lost_turn.Goals as goal
 
 pub loop-number-preserved : goal.loop-number-preserved
@@ -19,5 +19,5 @@ loop-number-preserved c =
     c.loop-number.invariant.is_border in
     record {
       is_border = c.next-border.ensures text lines number c.loop-number.invariant.is_border;
-      none = none_more (λ j it. IsLostAt scramble steps bounds j (shown_at text lines j) it) number c.loop-number.invariant.none here;
+      none = one_more (λ j. IsLostAt scramble steps bounds j (shown_at text lines j) None) number c.loop-number.invariant.none here;
     }

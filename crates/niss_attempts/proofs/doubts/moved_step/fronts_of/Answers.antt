@@ -1,7 +1,8 @@
 use Rattle.std.proofs.Common.{◌≡◌, ◌∙◌, ◌+◌, ◌<◌, ◌∷◌, [], ℕ, true, length, sym, ap, subst, arith, length-append}
 use Rattle.niss_attempts.specs.Corners.{Reads}
 use Rattle.niss_attempts.specs.Parts.{steps_line}
-use Rattle.niss_attempts.proofs.MovedLemmas.{fronts_more, step_more}
+use Rattle.niss_attempts.proofs.CornerLines.{each_more}
+use Rattle.niss_attempts.proofs.MovedLemmas.{step_more}
 use Rattle.niss_attempts.proofs.doubts.moved_step.fronts_of.Goals as goal
 
 pub loop-step-preserved : goal.loop-step-preserved
@@ -22,6 +23,6 @@ loop-step-preserved c =
       number = omega (arith, long, inv.number);
       front = front;
       reads = λ known.
-          fronts_more text bounds c.loop-step.fronts.items c.push-in-loop-step.new.self.items c.then-front.result c.push-in-loop-step.ensures.items (inv.reads known)
+          each_more (λ k c. Reads (steps_line text bounds 0 k) c) c.loop-step.fronts.items c.push-in-loop-step.new.self.items c.then-front.result c.push-in-loop-step.ensures.items (inv.reads known)
           (subst (λ (n : ℕ). Reads (steps_line text bounds 0 n) c.then-front.result) (sym inv.number) (front known));
     }

@@ -18,8 +18,8 @@ loop-place-init c =
       none = λ place low high. absurd (omega (arith, low, high, last));
     }
 
-pub solve_exchanged-requires-clause-stretches : goal.solve_exchanged-requires-clause-stretches
-solve_exchanged-requires-clause-stretches c known =
+pub exchange_solves-requires-clause-stretches : goal.exchange_solves-requires-clause-stretches
+exchange_solves-requires-clause-stretches c known =
     let whole = c.args.whole.now in
     let text = whole.steps.now in
     let bounds = whole.bounds.now in
@@ -36,12 +36,12 @@ solve_exchanged-requires-clause-stretches c known =
           (subst (λ (n : ℕ). Reads (steps_line text bounds n c.args.step) c.loop-place.late) next (inv.late known));
     }
 
-pub returns-then-solve_exchanged : goal.returns-then-solve_exchanged
-returns-then-solve_exchanged c =
+pub returns-then-exchange_solves : goal.returns-then-exchange_solves
+returns-then-exchange_solves c =
     let whole = c.args.whole.now in
     let place : ℕ = c.loop-place.place - 1 in
     let above : place + 1 < c.args.step = omega (arith, c.loop-place-test.true, c.loop-place.invariant.above) in
-    (place, above, moved_up (Ok whole.scramble.now) whole.steps.now whole.bounds.now c.args.step place (omega (arith, above)) ∙ sym c.solve_exchanged.ensures ∙ c.if-solve_exchanged.true)
+    (place, above, moved_up (Ok whole.scramble.now) whole.steps.now whole.bounds.now c.args.step place (omega (arith, above)) ∙ sym c.exchange_solves.ensures ∙ c.if-exchange_solves.true)
 
 pub loop-place-preserved : goal.loop-place-preserved
 loop-place-preserved c =
@@ -60,5 +60,5 @@ loop-place-preserved c =
           (subst (λ (n : ℕ). Reads (steps_line text bounds n c.args.step) c.loop-place.late) next (inv.late known));
       none = up_more (λ at. solves_moved (Ok whole.scramble.now) text bounds c.args.step at ≡ false) c.args.step place
           (λ at low high. inv.none at (omega (arith, next, low)) high)
-          (moved_up (Ok whole.scramble.now) text bounds c.args.step place (omega (arith, next, inv.above)) ∙ sym c.solve_exchanged.ensures ∙ c.if-solve_exchanged.false);
+          (moved_up (Ok whole.scramble.now) text bounds c.args.step place (omega (arith, next, inv.above)) ∙ sym c.exchange_solves.ensures ∙ c.if-exchange_solves.false);
     }

@@ -7,14 +7,14 @@ use Rattle.niss_attempts.proofs.HoldLemmas.{every_hold, hold_turns}
 use Rattle.niss_attempts.proofs.LostLemmas.{one_more}
 use Rattle.niss_attempts.proofs.doubts.turned_cube.is_turned_at.Goals as goal
 
-pub loop-at-preserved-then-not-may_solve : goal.loop-at-preserved-then-not-may_solve
-loop-at-preserved-then-not-may_solve c =
+pub loop-at-preserved-then-not-may_hold : goal.loop-at-preserved-then-not-may_hold
+loop-at-preserved-then-not-may_hold c =
     let scramble = Ok c.args.whole.now.scramble.now in
     let steps = c.args.whole.now.steps.now in
     let bounds = c.args.whole.now.bounds.now in
     one_more (λ j. solves_turned scramble steps bounds c.args.number (hold_numbered j).rotation ≡ false) c.loop-at.at c.loop-at.invariant
     (subst (λ (h : Hold). solves_turned scramble steps bounds c.args.number h.rotation ≡ false) c.hold_numbered-hold.ensures.is
-    (c.may_solve.ensures c.args.whole.now.scramble.now steps bounds c.args.number c.requires.around c.if-not-may_solve.true))
+    (c.may_hold.ensures c.args.whole.now.scramble.now steps bounds c.args.number c.requires.around c.if-not-may_hold.true))
 
 pub returns-then-solve_with : goal.returns-then-solve_with
 returns-then-solve_with c =

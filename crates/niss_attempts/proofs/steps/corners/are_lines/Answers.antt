@@ -3,17 +3,17 @@ use Rattle.niss_attempts.specs.declared.steps.reading.Reading.TheVariants.{AsWri
 use Rattle.niss_attempts.specs.declared.steps.corners.StepCorners.{StepCorners}
 use Rattle.niss_attempts.specs.Corners.{Reads}
 use Rattle.niss_attempts.specs.Parts.{read_byte, steps_line}
-use Rattle.niss_attempts.proofs.CornerLines.{steps_more}
+use Rattle.niss_attempts.proofs.CornerLines.{each_more}
 use Rattle.niss_attempts.proofs.steps.corners.are_lines.Goals as goal
 use Rattle.niss_attempts.proofs.steps.corners.are_lines.Goals.{in-Some, in-None}
 
 -- what is read of each of some steps
-abbrev AreRead : (text bounds : List ℕ) → List StepCorners → Type 0
-AreRead text bounds steps = (k : ℕ) (none : StepCorners) → k < length steps → Reads (steps_line text bounds k (k + 1)) (get_or steps k none)
+abbrev ReadsEach : (text bounds : List ℕ) → List StepCorners → Type 0
+ReadsEach text bounds steps = (k : ℕ) (none : StepCorners) → k < length steps → Reads (steps_line text bounds k (k + 1)) (get_or steps k none)
 
 -- the invariant after one step more
 abbrev Holds : (text bounds : List ℕ) → (at : ℕ) → List StepCorners → Bool → Type 0
-Holds text bounds at steps all = record { number : length steps + 1 ≡ at + 1; reads : all ≡ true → AreRead text bounds steps }
+Holds text bounds at steps all = record { number : length steps + 1 ≡ at + 1; reads : all ≡ true → ReadsEach text bounds steps }
 
 number_more : (steps more : List StepCorners) (one : StepCorners) (at : ℕ) → length steps + 1 ≡ at → more ≡ steps ++ one ∷ [] → length more + 1 ≡ at + 1
 number_more steps more one at number is =
@@ -21,11 +21,18 @@ number_more steps more one at number is =
     omega (arith, number, long)
 
 read_step : (text bounds : List ℕ) (at : ℕ) (steps more after : List StepCorners) (one : StepCorners) (all now : Bool) → length steps + 1 ≡ at → more ≡ steps ++ one ∷ [] →
-    after ≡ more → now ≡ all → (all ≡ true → AreRead text bounds steps) → Reads (steps_line text bounds (at - 1) at) one → Holds text bounds at after now
+    after ≡ more → now ≡ all → (all ≡ true → ReadsEach text bounds steps) → Reads (steps_line text bounds (at - 1) at) one → Holds text bounds at after now
 read_step text bounds at steps more after one all now number is same known_is reads last = record {
   number = number_more steps after one at number (same ∙ is);
-  reads = λ known. (steps_more text bounds steps after one at number (same ∙ is) (reads (sym known_is ∙ known)) last).1;
+  reads = λ known. each_more (λ k c. Reads (steps_line text bounds k (k + 1)) c) steps after one (same ∙ is) (reads (sym known_is ∙ known)) here;
 }
+  where
+    first : at - 1 ≡ length steps
+    first = omega (arith, number)
+
+    here : Reads (steps_line text bounds (length steps) (length steps + 1)) one
+    here =
+        subst (λ (n : ℕ). Reads (steps_line text bounds (length steps) n) one) (sym number) (subst (λ (n : ℕ). Reads (steps_line text bounds n at) one) first last)
 
 unread_step : (text bounds : List ℕ) (at : ℕ) (steps more after : List StepCorners) (one : StepCorners) (now : Bool) → length steps + 1 ≡ at → more ≡ steps ++ one ∷ [] →
     after ≡ more → now ≡ false → Holds text bounds at after now

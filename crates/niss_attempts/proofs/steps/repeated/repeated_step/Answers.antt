@@ -1,6 +1,6 @@
-use Rattle.std.proofs.Common.{◌∙◌, ◌+◌, Ok, sym, arith}
+use Rattle.std.proofs.Common.{◌≡◌, ◌∙◌, ◌+◌, Ok, false, sym, arith}
 use Rattle.niss_attempts.specs.Parts.{solves_repeated}
-use Rattle.niss_attempts.proofs.PartLemmas.{none_to_more}
+use Rattle.niss_attempts.proofs.LostLemmas.{one_more}
 use Rattle.niss_attempts.proofs.steps.repeated.repeated_step.Goals as goal
 
 pub loop-step-init : goal.loop-step-init
@@ -21,5 +21,5 @@ loop-step-preserved c =
     let step = c.loop-step.step in
     record {
       before = c.passed-before.ensures scramble text bounds step (step + 1) (c.longer-around.ensures scramble text bounds step c.loop-step.invariant.before);
-      none = none_to_more (solves_repeated (Ok scramble) text bounds) step c.loop-step.invariant.none (sym c.solves_repeated.ensures ∙ c.if-solves_repeated.false);
+      none = one_more (λ k. solves_repeated (Ok scramble) text bounds k ≡ false) step c.loop-step.invariant.none (sym c.solves_repeated.ensures ∙ c.if-solves_repeated.false);
     }

@@ -1,6 +1,6 @@
 use Rattle.niss_attempts.specs.Parts.{number_of_steps, steps_line, arranged}
 use Rattle.niss_attempts.proofs.TailLemmas.{before_parted, steps_parted}
-use Rattle.niss_attempts.proofs.steps.corners.Around.may_solve.Goals as goal
+use Rattle.niss_attempts.proofs.steps.corners.Around.may_arrange.Goals as goal
 
 pub returns : goal.returns
 returns c scramble text bounds first end is =

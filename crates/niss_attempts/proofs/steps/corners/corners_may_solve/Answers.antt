@@ -1,7 +1,7 @@
 use Rattle.std.proofs.Common.{◌++◌}
 use Rattle.niss_moves.specs.Line.{joined_moves}
 use Rattle.niss_attempts.proofs.TailLemmas.{tail_refused}
-use Rattle.niss_attempts.proofs.steps.corners.may_solve.Goals as goal
+use Rattle.niss_attempts.proofs.steps.corners.corners_may_solve.Goals as goal
 
 pub returns-then-two_stay : goal.returns-then-two_stay
 returns-then-two_stay c moves bytes scrambles tail =

@@ -1,13 +1,22 @@
-//! Which lines of a text are steps, and of the solution, and how long their moves are.
+//! Which lines of a text are of a scramble, steps, and of the solution, and how long their moves are.
 ghost use Rattle.std.specs.Prelude.{◌≡◌, ◌==◌, ◌-◌};
 ghost use Rattle.std.specs.List.{list_any};
 ghost use Rattle.niss_text.specs.Moves.{is_wanted};
-ghost use Rattle.niss_text.specs.declared.moves.MovesOf.TheVariants.{Solution};
+ghost use Rattle.niss_text.specs.declared.moves.MovesOf.TheVariants.{Scramble, Solution};
 
 use niss_text::TextLine;
 
-/// The kind of a step, by the number of `niss_text`.
+/// The kind of a line of a scramble, by the number of `niss_text`, and of a step.
+const SCRAMBLE_LINE: u8 = 2;
+
 const STEP_LINE: u8 = 3;
+
+/// Whether one of some lines is of a scramble.
+pub(crate) fn has_scramble(lines: &[TextLine]) -> bool
+    ensures { result ≡ list_any (is_wanted Scramble) lines.now }
+{
+    lines.iter().any(|line| line.kind == SCRAMBLE_LINE)
+}
 
 /// Whether a line is a step.
 pub(crate) fn is_step(line: &TextLine) -> bool

@@ -3,7 +3,7 @@ use Rattle.niss_moves.specs.Reader.{read_line}
 use Rattle.niss_attempts.specs.MovedStep.{with_blank}
 use Rattle.niss_attempts.specs.Parts.{number_of_steps, read_byte, solves_line, steps_line}
 use Rattle.niss_attempts.specs.declared.steps.reading.Reading.TheVariants.{AsWritten}
-use Rattle.niss_attempts.proofs.doubts.moved_step.solve.Goals as goal
+use Rattle.niss_attempts.proofs.doubts.moved_step.solves_exchanged.Goals as goal
 
 pub returns : goal.returns
 returns c =

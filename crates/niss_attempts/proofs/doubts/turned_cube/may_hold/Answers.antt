@@ -1,5 +1,5 @@
 use Rattle.niss_attempts.proofs.TurnedLemmas.{turned_refused}
-use Rattle.niss_attempts.proofs.doubts.turned_cube.may_solve.Goals as goal
+use Rattle.niss_attempts.proofs.doubts.turned_cube.may_hold.Goals as goal
 
 pub returns-else-not-around : goal.returns-else-not-around
 returns-else-not-around c scramble steps bounds number is none =
