@@ -57,7 +57,8 @@ OF_A_STEP = (
     ),
     ("R U F\n\nD\nF' // EO U' R' D", "D F'", "moves and a comment may be taken for each other", 1),
 )
-# what is said beside the scramble of a text, and where its button leads: whether all is solved, or what the text calls its solution
+# what is said beside the scramble of a text, and where its button leads: whether all is solved, or what the text calls its solution; if that is the
+# line the card of this says that it doesn't solve, in the same words
 UNSOLVED = "The solution doesn't solve the scramble."
 ENDS = (
     ("R U F\nF' U' R' // all", "Solved: 3 moves.", "Line so far"),
@@ -194,7 +195,16 @@ def says_how_it_ends(tally: Tally, browser: Browser) -> None:
             tally,
             f"{text!r}",
             ("script", PASTE, text, {}),
-            ("comes", "attempt-words", words, {"attempt-way": way, "n #attempt-words.lost": int(UNSOLVED in words)}),
+            (
+                "comes",
+                "attempt-words",
+                words,
+                {
+                    "attempt-way": way,
+                    "n #attempt-words.lost": int(UNSOLVED in words),
+                    "unsolved": UNSOLVED if words == UNSOLVED else "",
+                },
+            ),
             ("hears", words, {}),
             ("act", "#attempt-way", {"focus": f"{'kept' if way == 'Kept' else 'line'}-heading"}),
         )
@@ -203,10 +213,10 @@ def says_how_it_ends(tally: Tally, browser: Browser) -> None:
         browser.walk(
             tally,
             f"{change}",
-            ("script", PASTE, ENDS[0][0], {}),
-            ("comes", "attempt?", True, {}),
+            ("script", PASTE, ENDS[2][0], {}),
+            ("comes", "attempt?", True, {"unsolved": UNSOLVED}),
             (*change, {}),
-            ("comes", "attempt?", False, {}),
+            ("comes", "attempt?", False, {"unsolved": ""}),
         )
     browser.open(address_of(LONGER) + "&steps=normal.R")
     tally.equal("nothing is said of an address", browser.look("attempt?"), False)

@@ -136,6 +136,7 @@ def chosen(tally: Tally, browser: Browser) -> None:
         (sorted(browser.script(pressed)), browser.text("kept-compare")),
         (sorted(map(line_of, (EO, OTHER))), "Compare 2"),
     )
+    tally.holds("which is said", browser.hears("2 lines to compare."))
     browser.script("part('kept-compare').focus()")
     browser.press(Keys.ENTER)
     tally.holds("they come by keys", browser.until("return document.querySelector('#comparison').open"))

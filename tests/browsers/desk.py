@@ -17,14 +17,22 @@ PLACES = """const [kept, best] = ['kept', 'best'].map((name) => part(name).getBo
     const { scrollWidth, clientWidth } = document.documentElement;
     return [kept.top < innerHeight / 2, kept.right <= best.left || kept.left >= best.right, scrollWidth - clientWidth]"""
 LINES = """return all('#kept-list li').map((each) => [each.querySelector('.moves').textContent, each.querySelector('.note-field').value])"""
-TOPS = """return ['scramble-card', 'best', 'steps', 'cube', 'line'].map((name) => part(name).getBoundingClientRect())
-    .map(({ left, top, width }) => [left, top, width])"""
+TOPS = """return ['best', 'steps', 'cube', 'line'].map((name) => part(name).getBoundingClientRect())
+    .map((box) => [box.left, box.top, box.width])"""
+# which of these aren't where they were; a page is scrolled by whole points
+MOVED = f"""const before = %s, after = (() => {{ {TOPS} }})();
+    return after.filter((box, at) => box.some((each, place) => Math.abs(each - before[at][place]) > 0.6))"""
+IS_ABOVE = """const [kept, cube] = ['kept', 'cube'].map((name) => part(name).getBoundingClientRect());
+    return kept.bottom > 100 && kept.bottom < cube.top"""
+ARE_LEVEL = (
+    "return new Set(['results', 'scramble-card'].map((name) => part(name).getBoundingClientRect().top)).size === 1"
+)
+STARS = "#best-body tr:nth-child(%d) .star"
 REMOVE = "#kept-list li:nth-child(%d) [data-control^=away]"
 
 
 def stands_beside(tally: Tally, browser: Browser) -> None:
-    """On a desktop it begins in the upper half of the window, beside the best; on the widest it is there before the first star, which moves
-    nothing."""
+    """On a desktop it begins in the upper half of the window, beside the best; on the widest it is there before the first star."""
     browser.walk(tally, "five", ("go", FIVE, {}), ("until", KEPT_SAID, {}), ("wait_best", {}))
     browser.walk(
         tally,
@@ -40,12 +48,35 @@ def stands_beside(tally: Tally, browser: Browser) -> None:
     browser.go(ADDRESS)
     browser.wait_best()
     tally.holds("an empty desk says what it is for", "☆" in browser.text("kept-none"))
-    browser.walk(
-        tally,
-        "the first star moves nothing",
-        ("act", "#best-body .star", {}),
-        ("until", KEPT_SAID, {TOPS: browser.script(TOPS)}),
-    )
+
+
+def moves_nothing(tally: Tally, browser: Browser) -> None:
+    """No star moves anything but what is kept, nor does a step that is taken back then. On a laptop, where that stands above the cube, it comes there
+    in view, since the page is scrolled as far as it is high; both columns begin on one height again once the page is scrolled up.
+    """
+    for width, height in (*SIZES, (1920, 1080)):
+        browser.resize(width, height)
+        browser.open(ADDRESS)
+        browser.wait_best()
+        moved, is_above = MOVED % browser.script(TOPS), width < 1728
+        for row in (1, 3, 2, 3):
+            browser.walk(
+                tally,
+                f"{width}: star {row}",
+                ("click", STARS % row, {}),
+                ("until", KEPT_SAID, {moved: [], "return scrollY > 0": is_above}),
+            )
+        browser.walk(
+            tally,
+            f"{width}: a step, and back",
+            ("act", "#best-body .take", {}),
+            ("script", "history.back()", {}),
+            ("comes", "bracketed", "", {}),
+            ("wait_best", {moved: []}),
+        )
+        tally.equal(f"{width}: it is seen above the cube", browser.script(IS_ABOVE), is_above)
+        browser.script("scrollTo({ top: 0, behavior: 'instant' })")
+        tally.holds(f"{width}: scrolled up", browser.until(ARE_LEVEL))
 
 
 # at how many places numbers end, and those who don't stand beside their moves

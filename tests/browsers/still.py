@@ -1,6 +1,8 @@
 """Nothing moves under a finger: what the browser says of shifts of the layout, from the first answer on and while an address is opened."""
 import time
 
+from attempts import PASTE
+from best import LONGER
 from browser import HELD, Browser
 from looks import SCRAMBLE
 from tally import Tally, made_again
@@ -93,6 +95,18 @@ def opens(tally: Tally, browser: Browser, width: int) -> None:
         time.sleep(QUIET)
         tally.equal(f"{width}: {what}: what moves while it is opened", browser.script(SHIFTS, 0), [])
     browser.no_longer(script)
+
+
+def begins(tally: Tally, browser: Browser, width: int) -> None:
+    """The first scramble, or another one, doesn't scroll the page away from where it is pasted or drawn, also if the line was seen."""
+    solved = "R U F\n\nF' U' R'"
+    for text in (LONGER, solved, LONGER, ""):
+        if text != solved:
+            browser.open()
+        browser.script(*((PASTE, text) if text else ("part('random').click()",)))
+        browser.settle("return part('choices').checkVisibility()")
+        browser.wait_best()
+        tally.equal(f"{width}: how far {text!r} scrolls the page", browser.script("return scrollY"), 0)
 
 
 def searches(tally: Tally, browser: Browser, width: int) -> None:
@@ -206,7 +220,7 @@ def at_sizes(tally: Tally, browser: Browser) -> None:
     browser.before_page(LISTEN)
     for width, height in SIZES:
         browser.resize(width, height)
-        for part in (opens, filters, searches, stands, takes):
+        for part in (opens, begins, filters, searches, stands, takes):
             part(tally, browser, width)
     browser.resize(320, 640)
     takes(tally, browser, 320)

@@ -39,11 +39,12 @@ export class Page {
   #turn = 0;
   #cube: CubeOfLine | null = null;
   #isReading = false;
+  /** whether only the line was changed last */ #isOfLine = false;
   #nextFocus = new NextFocus();
   #wayBack = new WayBack();
   #calls: Calls;
   #keptCalls: Calls;
-  #byHand: Calls;
+  /** what is asked for by hand is never given up for another cube */ #byHand: Calls;
   #readiness: Readiness;
   #seen = new Seen();
   #desk: DeskStrip;
@@ -56,10 +57,7 @@ export class Page {
   #kept: KeptCandidates;
 
   constructor(newCalls: () => Calls, reader: Reader) {
-    this.#calls = newCalls();
-    this.#keptCalls = newCalls();
-    // what is asked for by hand is never given up for another cube
-    this.#byHand = newCalls();
+    [this.#calls, this.#keptCalls, this.#byHand] = [newCalls(), newCalls(), newCalls()];
     this.#scramble = new ScrambleField(this.#byHand, reader, {
       change: (...typed) => this.#setScramble(...typed), take: (sheets) => this.#desk.take(sheets),
     });
@@ -122,7 +120,7 @@ export class Page {
     const turn = ++this.#turn;
     const { state: read, fault } = readAddress(hash);
     const { state, place, written } = this.#desk.arrive(read);
-    this.#isReading = true;
+    [this.#isReading, this.#isOfLine] = [true, false];
     this.#nextFocus.set(document.activeElement?.matches("#again") ? "table" : undefined);
     dropAddress();
     if (written && this.#scramble.open(written)) return;
@@ -166,6 +164,7 @@ export class Page {
     this.#state = { ...this.#state, ...("parts" in change ? { list: null } : {}), ...change };
     const isOther = "scramble" in change || "parts" in change || this.#isReading;
     if (isOther) tell(part("alert"), "");
+    this.#isOfLine = !("scramble" in change);
     // the engine is asked first, and answers meanwhile
     if (isOther) this.#refresh(focusNext !== undefined);
     else this.#showList();
@@ -206,7 +205,7 @@ export class Page {
     const wasAtTop = this.#cube && isAtTop();
     this.#isReading = false;
     this.#cube = null;
-    this.#readiness.stop();
+    this.#readiness.begin(null);
     this.#calls.drop();
     const asked = cubeWithOffers(this.#calls, { text: scramble, parts });
     // what is wrong is said where it is waited for
@@ -270,8 +269,8 @@ export class Page {
       this.#best.expect(reached, isBare(this.#state));
       this.#table.begin(cube);
     };
-    // in one column a line that is seen stays, also where the page becomes too low for the browser to keep it there
-    const isSeen = () => !areBeside() && part("line").getBoundingClientRect().top < innerHeight;
+    // in one column a line that is worked on stays, also if the page becomes too low for the browser to keep it there
+    const isSeen = () => this.#isOfLine && !areBeside() && part("line").getBoundingClientRect().top < innerHeight;
     if (stays) begin();
     else withoutMoving(part(isSeen() ? "line" : "scramble-card"), begin);
     this.#checkList(reached);
@@ -280,7 +279,7 @@ export class Page {
   }
 
   /** Closes a list whose step may not start, and says why. */
-  #checkList(reached: string[]) {
+  #checkList(reached: Step[]) {
     const { list } = this.#state;
     const why = list ? whyNotListed(list.step, reached) : "";
     if (why === "") return;

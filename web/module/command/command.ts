@@ -9,7 +9,7 @@ import { LINE_FEED, MOST_INPUT, encoded, textIn } from "../shared/bytes.js";
 import { NissyFault, inLine } from "../shared/faults.js";
 import { SEARCH_ANSWER, SOLUTION } from "../shared/layout.js";
 import { STATUS } from "../shared/structs.js";
-import { isStep } from "../shared/steps.js";
+import { isStep, type Step } from "../shared/steps.js";
 import { answerInput, split } from "./input-lines.js";
 import { OUT_OF_MEMORY, Stop, TOO_LONG } from "./stop.js";
 import { readSome, writeAll } from "./streams.js";
@@ -17,13 +17,11 @@ import { readSome, writeAll } from "./streams.js";
 type Piece = Seen & { out: Uint8Array };
 
 /** A search, and the words of the line that it is asked for: if there are none, it is asked for each of the input. */
-type Search = { command: string; step: string; limit: number; slack: number; words: string[] };
+type Search = { isCount: boolean; step: Step; limit: number; slack: number; words: string[] };
 
 const INPUT = 0;
 const OUTPUT = 1;
 const ERRORS = 2;
-
-const NOTHING = new Uint8Array(0);
 
 /** How many numbers follow the step. */
 const SEARCHES = new Map([["solve", 1], ["count", 1], ["near", 2]]);
@@ -99,12 +97,12 @@ function searchOf([command, step, ...rest]: string[]): Search | undefined {
   const areNumbers = numbers.every((word) => /^[0-9]+$/.test(word) && Number(word) <= MOST_TURNS);
   if (numbers.length !== count || !areNumbers || !isStep(step)) return undefined;
   const [limit, slack = 0] = numbers.map(Number);
-  return { command, step, limit, slack, words: rest.slice(count) };
+  return { isCount: command === "count", step, limit, slack, words: rest.slice(count) };
 }
 
 /** Answers lines of a search by the tables that stay. */
 function searchLines(instance: Instance, search: Search, lines: Uint8Array, first: number) {
-  const writeFound = search.command === "count" ? writeCount : writeSolutions;
+  const writeFound = search.isCount ? writeCount : writeSolutions;
   let number = first;
   for (const line of split(lines)) {
     try {
@@ -133,7 +131,7 @@ function makeSearch(instance: Instance, search: Search) {
 function obey(instance: Instance, words: string[]) {
   const search = searchOf(words);
   if (search !== undefined) makeSearch(instance, search);
-  else if (run(instance, words, NOTHING) === 0 && words[0] !== "scramble") {
+  else if (run(instance, words, new Uint8Array(0)) === 0 && words[0] !== "scramble") {
     answerInput(read, (lines, first) => run(instance, words, lines, first));
   }
 }

@@ -8,12 +8,6 @@ const BLOCK = 4_096;
 /** Answers lines, each with its line feed but the last one of an input, of which the first has this number. */
 export type Answering = (lines: Uint8Array, first: number) => void;
 
-function countOf(lines: Uint8Array): number {
-  let count = 0;
-  for (const byte of lines) if (byte === LINE_FEED) count += 1;
-  return count;
-}
-
 /** @returns each without its line feed */
 export function* split(lines: Uint8Array): Iterable<Uint8Array> {
   for (let begin = 0; begin < lines.length; ) {
@@ -37,7 +31,7 @@ export function answerInput(read: (buffer: Uint8Array) => number, answer: Answer
       const lines = joinedBytes([...open, block.subarray(0, end)]);
       open = [];
       answer(lines, number);
-      number += countOf(lines);
+      number += [...split(lines)].length;
     }
     // a copy, since the next block takes this one's place
     if (end < block.length) open.push(block.slice(end));

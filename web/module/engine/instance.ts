@@ -3,8 +3,6 @@ import type { Text } from "../shared/bytes.js";
 import { HEAD, STATUS, struct, structOf, type Reading } from "../shared/structs.js";
 import { InstanceMemory, aligned, roomFor } from "./memory.js";
 
-export type Exports = { [name: string]: any };
-
 /** What a call is given after the place of its answer, as the headers have it: a text, by its place and its length;
  * room for so many bytes, or for rows of a struct, the first of which may stand there; bytes, such as a struct, by
  * their place alone; memory that is lent, by the place of a room; and numbers. */
@@ -25,7 +23,7 @@ const ANSWER = 48;
 const NEEDED = ["memory", "__heap_base", "nissy_run"];
 
 export class Instance {
-  #exports: Exports;
+  #exports: { [name: string]: any };
   #tables = new Map<string, number>();
   /** Whether a call began that didn't return: what the module has in its memory is then in no order. */
   isBroken = false;
@@ -42,14 +40,6 @@ export class Instance {
     this.free = aligned(this.answer + ANSWER);
   }
 
-  call(call: (exports: Exports) => number | undefined): number | undefined {
-    // no handler of this one runs if the host cuts a call off
-    this.isBroken = true;
-    const result = call(this.#exports);
-    this.isBroken = false;
-    return result;
-  }
-
   /** Calls the module by what it is given, and says where each of these stands in its memory. */
   ask(name: string, given: readonly Given[]): number[] {
     return this.#ask(name, [BigInt(this.answer)], given).places;
@@ -64,7 +54,11 @@ export class Instance {
       if (typeof each === "object") end = aligned(end + this.#hand(words, each, end));
       else words.push(each);
     }
-    return { places, result: this.call((exports) => Reflect.apply(exports[name], undefined, words)) };
+    // no handler of this one runs if the host cuts a call off
+    this.isBroken = true;
+    const result: number | undefined = Reflect.apply(this.#exports[name], undefined, words);
+    this.isBroken = false;
+    return { places, result };
   }
 
   /** Writes what a call is given, hands over its words, and says how many bytes it has at its place. */

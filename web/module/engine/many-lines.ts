@@ -14,7 +14,8 @@ const MOST_LINES = 256;
 const MOST_OF_TEXT = 262_144;
 
 /** The struct of an answer that has all that is told. */
-const STRUCTS: { [call: string]: Struct } = { facts: FACTS_ANSWER, count: SEARCH_ANSWER, check: CHECK_ANSWER };
+const STRUCTS: { [Call in OfEach["call"]]?: Struct } =
+  { facts: FACTS_ANSWER, count: SEARCH_ANSWER, check: CHECK_ANSWER };
 
 const hasLineFeed = (line: Text) => (typeof line === "string" ? line.includes("\n") : line.includes(LINE_FEED));
 

@@ -102,7 +102,6 @@ export class TextCalls {
     return joinedBytes([...scrambles.map(withoutLines), this.instance.memory.bytes(parts, count * KNOWN_PART.bytes)]);
   }
 
-  /** Keeps what was told of so many lines. */
   #keep(lines: number, count: number) {
     this.#count = count;
     this.#room = this.#text.length + OF_LINE * count;

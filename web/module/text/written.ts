@@ -135,7 +135,6 @@ export class WrittenText {
     this.#units = this.bytes.length === text.length ? null : unitsOf(this.bytes);
   }
 
-  /** The places of its units. */
   get places() {
     return (this.#places ??= new TextPlaces(this.#text));
   }

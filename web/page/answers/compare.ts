@@ -1,9 +1,9 @@
 // What lines that are compared lead to, by the engine at hand.
 import { positionAfter } from "./position-after.js";
 import { solutionsOf } from "./list-rows.js";
-import { lengthOverBoth, viewsOf, type View } from "./examine.js";
+import { lengthOverBoth, viewsOf, type Views } from "./examine.js";
 import {
-  bracketed, isOffered, isReduced, openSteps, type OfferedStep, type Part, type Side,
+  bracketed, isOffered, isReduced, openSteps, type OfferedStep, type Part, type Side, type Step,
 } from "../shared/offered-steps.js";
 import type { BestRow } from "../../module/shared/ways.js";
 import type { Nissy } from "../../module/nissy.js";
@@ -12,7 +12,7 @@ import type { Nissy } from "../../module/nissy.js";
 export type Counts = Map<number, number>;
 /** `steps`: those that follow, a reduction as soon as one may; `first`: the best way on; `total`: all moves. */
 export type Compared = {
-  views: Record<Side, View>; steps: ReturnType<typeof stepAfter>[]; first: BestRow | null; total: number;
+  views: Views; steps: ReturnType<typeof stepAfter>[]; first: BestRow | null; total: number;
 };
 
 /** How many there are on a side of the least length, and of one move more. */
@@ -29,7 +29,7 @@ function stepAfter(nissy: Nissy, step: OfferedStep, now: string) {
   return { step, counts, both: lengthOverBoth(nissy, step.name, now, alone) };
 }
 
-function stepsAfter(reached: string[]) {
+function stepsAfter(reached: Step[]) {
   const open = isReduced(reached) ? [] : openSteps(reached);
   const reductions = open.filter(({ needs }) => needs !== null);
   return reductions.length > 0 ? reductions : open;

@@ -16,6 +16,9 @@ import type { Facts } from "../../module/shared/facts.js";
 import type { Nissy } from "../../module/nissy.js";
 
 export type View = { letters: string; facts: Facts };
+export type Views = Record<Side, View>;
+/** The cube after a move, and all moves up to it. */
+export type Frame = { move: string; total: number; views: Views };
 /** `total`: the fewest moves in all with a shortest solution, Infinity if there is none; `best`: how many make that. */
 export type Counted = Count & { total: number; best: number };
 /** `both`: the least length over both sides, if that is less than on each alone; after a reduction null. */
@@ -24,7 +27,7 @@ export type Offer = { step: OfferedStep; normal: Counted; inverse: Counted; both
  * case before each move of those that lead from an orientation to a reduction; `otherwise`: what a part that reaches
  * nothing would reach on the other side; `now`: the cube then. */
 export type Walk = {
-  parts: Part[]; facts: Facts[]; reached: string[][]; totals: number[]; turns: number[]; passed: string[][];
+  parts: Part[]; facts: Facts[]; reached: Step[][]; totals: number[]; turns: number[]; passed: string[][];
   otherwise: string[][]; now: Position;
 };
 
@@ -33,16 +36,16 @@ const positionsOf = (nissy: Nissy, scramble: string, parts: Part[]): Position[] 
   [...parts, null].map((_, count) => positionAfter(nissy, scramble, parts.slice(0, count)));
 
 /** The first reduction that is reached after an orientation, and between which beginnings that lies. */
-function reductionIn(reached: string[][]) {
+function reductionIn(reached: Step[][]) {
   const to = reached.findIndex(isReduced);
   const step = to < 1 ? undefined : REDUCTIONS.find(({ name, needs }) =>
     reached[to].includes(name) && needs !== null && reached[to - 1].includes(needs));
   if (step === undefined) return null;
-  const from = reached.slice(0, to).findLastIndex((each) => !each.includes(String(step.needs))) + 1;
+  const from = reached.slice(0, to).findLastIndex((each) => step.needs !== null && !each.includes(step.needs)) + 1;
   return { step, from, to };
 }
 
-function passedBy(nissy: Nissy, parts: Part[], positions: Position[], reached: string[][]): string[][] {
+function passedBy(nissy: Nissy, parts: Part[], positions: Position[], reached: Step[][]): string[][] {
   const way = reductionIn(reached);
   return parts.map((part, at) => {
     if (way === null || at < way.from || at >= way.to) return [];
@@ -50,7 +53,7 @@ function passedBy(nissy: Nissy, parts: Part[], positions: Position[], reached: s
   });
 }
 
-function reachedOtherwise(nissy: Nissy, scramble: string, before: Part[], part: Part, reached: string[][]) {
+function reachedOtherwise(nissy: Nissy, scramble: string, before: Part[], part: Part, reached: Step[][]) {
   if (newlyReached({ reached }, before.length).length > 0) return [];
   const { holds, solved } = nissy.facts(nissy.lineAfter(scramble, bracketed([...before, onOtherSides(part)])));
   return solved ? ["solved"] : newlyReached({ reached: [reached[before.length], holds.filter(isOffered)] }, 0);
@@ -72,13 +75,13 @@ function walkOf(nissy: Nissy, scramble: string, parts: Part[]): Walk {
   };
 }
 
-export function viewsOf(nissy: Nissy, { lines }: Position): Record<Side, View> {
+export function viewsOf(nissy: Nissy, { lines }: Position): Views {
   const viewOf = (line: string) => ({ letters: nissy.facelets(line), facts: nissy.facts(line) });
   return { normal: viewOf(lines.normal), inverse: viewOf(lines.inverse) };
 }
 
 /** `whole`: the line without brackets, clean; before the cube is solved more goes between its two sides. */
-export type Examined = { read: ReadScramble; walk: Walk; views: Record<Side, View>; whole: string };
+export type Examined = { read: ReadScramble; walk: Walk; views: Views; whole: string };
 export type Unexamined = { unread: FaultParts };
 
 function examined(nissy: Nissy, { text, parts }: { text: string; parts: Part[] }): Examined | Unexamined {
@@ -91,9 +94,7 @@ function examined(nissy: Nissy, { text, parts }: { text: string; parts: Part[] }
 }
 
 /** The cube on both sides after the scramble and after each move of some parts. */
-export function framesOf(
-  nissy: Nissy, { scramble, parts }: { scramble: string; parts: Part[] },
-): { move: string; total: number; views: Record<Side, View> }[] {
+export function framesOf(nissy: Nissy, { scramble, parts }: { scramble: string; parts: Part[] }): Frame[] {
   const moves = singleMoves(parts);
   return positionsOf(nissy, scramble, moves).map((position, at) => (
     { move: at === 0 ? "" : bracketed([moves[at - 1]]), total: position.count, views: viewsOf(nissy, position) }));
@@ -114,7 +115,7 @@ export function lengthOverBoth(nissy: Nissy, step: Step, now: string, alone: num
   return nissy.solve(step, now, wanted).at(0)?.length ?? null;
 }
 
-function offerOf(nissy: Nissy, step: OfferedStep, position: Position, reached: string[]): Offer {
+function offerOf(nissy: Nissy, step: OfferedStep, position: Position, reached: Step[]): Offer {
   const [normal, inverse] = SIDES.map((side) => countedOn(nissy, step, side, position));
   const alone = [normal, inverse].map(({ length }) => length ?? LONGEST_STEP);
   const both = isReduced(reached) ? null : lengthOverBoth(nissy, step.name, position.lines.normal, alone);

@@ -119,7 +119,8 @@ function readAllByHand(
 /** A text as solvers write it, and which of its attempts is meant; `copied`: what it was a copy of, before edits. */
 export type Written = { text: string; at: number; copied?: Copied[] };
 
-/** `solves`: whether what the text calls its solution does, null if nothing is, or if that can't be told. */
+/** `solves`: whether what the text calls its solution does, null if nothing is, or if that can't be told; `isOfLine`:
+ * whether that is the line, and no candidate. */
 export type ReadAttempt = ReturnType<typeof readWritten>;
 
 /** The steps and the candidates of an attempt, the first line of it that can't be read, if any, what makes one doubt
@@ -137,11 +138,12 @@ export function readWritten(nissy: Nissy, { text, at }: Written) {
   const kept = read.filter((each) => each.parts.length > 0);
   return {
     parts,
-    kept: kept.map((each) => ({ parts: each.parts, note: each.note, next: "" })),
+    kept: kept.map((each) => ({ parts: each.parts, note: each.note, next: "" as const })),
     unread: [unread, ...read.map((each) => each.unread)].find((each) => each !== null) ?? null,
     doubt,
     doubted,
     solves: check !== null && attempt.isLabelled ? check.solved : null,
+    isOfLine: steps.length > 0 && steps[0].places[0] === attempt.solution?.places[0],
     undoing: nissy.invert(parts[doubted]?.normal ?? ""),
   };
 }

@@ -1,13 +1,13 @@
-// What is said of an attempt beside the scramble that it was read with, since on a phone its line stands far below:
-// whether it is solved, what is kept of it and which step is in doubt, with a way there.
+// What is said of an attempt beside its scramble, since on a phone its line stands far below: whether it is solved,
+// what is kept and which step is in doubt, with a way there; and in the card of its line if that is no solution.
 import { lastOf } from "../shared/certain.js";
-import { announceLater, counted, part } from "../shared/element.js";
+import { announceLater, counted, part, tell } from "../shared/element.js";
 import { furthestOf, statesOf } from "../shared/offered-steps.js";
 import { areBeside, leadTo, withoutMoving } from "../shared/view.js";
 import type { Walk } from "../answers/examine.js";
 import type { ReadAttempt } from "../answers/read-lines.js";
 
-/** @param walk of its line, null if it has none */
+/** First of what the text calls its solution. @param walk of the line, null if there is none */
 function wordsOfAttempt({ kept, solves, unread }: ReadAttempt, walk: Walk | null): string[] {
   const isSolved = walk !== null && lastOf(walk.facts).solved;
   const total = walk === null ? "" : counted(lastOf(walk.totals), "move");
@@ -25,7 +25,7 @@ function wordsOfAttempt({ kept, solves, unread }: ReadAttempt, walk: Walk | null
 export class AttemptAnswer {
   #read: ReadAttempt | null = null;
   /** the card that the way leads to */
-  #card = "line";
+  #card: "line" | "kept" = "line";
 
   constructor() {
     part("attempt-way").addEventListener("click", () => {
@@ -45,12 +45,15 @@ export class AttemptAnswer {
   tell(walk: Walk, doubted: number) {
     const read = this.#read;
     if (read === null || read.parts.length === 0) return;
-    this.#show(read, [...wordsOfAttempt(read, walk), doubted < 0 ? "" : `In doubt: step ${doubted + 1}.`]);
+    const words = wordsOfAttempt(read, walk);
+    this.#show(read, [...words, doubted < 0 ? "" : `In doubt: step ${doubted + 1}.`]);
+    tell(part("unsolved"), read.isOfLine && read.solves === false ? words[0] : "");
   }
 
   /** Says nothing more, since the line or the scramble is another one. */
   leave() {
     this.#read = null;
+    tell(part("unsolved"), "");
     if (part("attempt").hidden) return;
     const card = part("scramble-card");
     withoutMoving(card.contains(document.activeElement) ? card : part("results"), () => {

@@ -3,7 +3,7 @@
 import { counted, element, grouped, inner, type Attributes } from "../shared/element.js";
 import { triggerOf, withCases } from "../shared/passage.js";
 import { starButton, takeButton, type StarActs } from "../shared/rows.js";
-import { SIDES, bracketed, sidesOf, type Part, type Side } from "../shared/offered-steps.js";
+import { SIDES, bracketed, sidesOf, type Part, type Side, type Step } from "../shared/offered-steps.js";
 import { wordsOfTwins } from "../shared/twins.js";
 import type { After } from "../answers/examine.js";
 import type { Next, Row } from "./finder.js";
@@ -75,7 +75,7 @@ function firstOf(next: Next) {
 export function bestRow(row: Row, acts: RowActs) {
   const { total, part: added, state, next, twins, key, passed } = row;
   const line = bracketed([added]) || "no moves";
-  const kept: [Part[], string | undefined] = [[added], next?.step];
+  const kept: [Part[], Step | undefined] = [[added], next?.step];
   const take = takeButton(line, { key, passed, isSeen: acts.isSeen(...kept) }, () => acts.goOn(row));
   // one orientation has a row, and a star, for each reduction that may follow
   const whole = next ? `${line}, ${next.marks} ${next.case}` : line;

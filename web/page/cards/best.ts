@@ -5,11 +5,11 @@ import { thrownError, present } from "../shared/certain.js";
 import { ShownCounts } from "./counts.js";
 import { announce, announceLater, counted, grouped, part, setBusy, tell } from "../shared/element.js";
 import { Filters, casesOfBest, filtersOfBest, offerCases, offerMoves } from "./filters.js";
-import { KnownSearches, findAll, joiningRows, type Progress, type Question, type Row } from "./finder.js";
-import { FURTHEST, FurtherSearch, type Further } from "./further-search.js";
+import { KnownSearches, findAll, joiningRows, type Further, type Progress, type Question, type Row } from "./finder.js";
+import { FURTHEST, FurtherSearch } from "./further-search.js";
 import { GREATEST_SLACK } from "../state/limits.js";
 import { addRows, roveWithin, showRows, takeNamed } from "../shared/rows.js";
-import { isReduced, type Part } from "../shared/offered-steps.js";
+import { isReduced, type Part, type Step } from "../shared/offered-steps.js";
 import { isNarrow, withoutMoving } from "../shared/view.js";
 import type { Calls } from "../shared/questions.js";
 
@@ -18,13 +18,13 @@ const LOOKING_FOR_BEST = "Looking for the best …";
 const SHOWN_FIRST = { narrow: 5, wide: 6, ofReductions: 8 };
 const SHOWN_MORE = 40;
 
-function shownFirst(reached: string[]) {
+function shownFirst(reached: Step[]) {
   if (isNarrow()) return SHOWN_FIRST.narrow;
   return reached.length > 0 ? SHOWN_FIRST.ofReductions : SHOWN_FIRST.wide;
 }
 
 /** `longer`: by how many moves orientations may be longer, as it was chosen for the scramble. */
-type CubeOfBest = { scramble: string; parts: Part[]; reached: string[]; longer: number };
+type CubeOfBest = { scramble: string; parts: Part[]; reached: Step[]; longer: number };
 
 type BestActs = RowActs & { shown: () => void; lengthen: (longer: number) => void };
 
@@ -101,7 +101,7 @@ export class BestContinuations {
   }
 
   /** Shows the card, or hides it, before there are rows: so nothing moves when they come. */
-  expect(reached: string[], isBare: boolean) {
+  expect(reached: Step[], isBare: boolean) {
     part("best").hidden = isBare || isReduced(reached);
     this.#room.classList.toggle("of-reductions", reached.length > 0);
   }

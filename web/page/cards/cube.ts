@@ -9,7 +9,7 @@ import {
 } from "../shared/offered-steps.js";
 import { withCases } from "../shared/passage.js";
 import { PIECES, whyOf } from "./why.js";
-import type { View, Walk } from "../answers/examine.js";
+import type { Frame, View, Views, Walk } from "../answers/examine.js";
 
 type Asked = typeof PIECES[number] | "";
 
@@ -53,15 +53,12 @@ function looksOf(walk: Walk): { made: number; goal: string }[] {
   });
 }
 
-/** Each move in an element of its own. */
 const moveByMove = (moves: string) => moves.split(/([^ ()]+)/).map((word, at) =>
   (at % 2 === 0 ? word : element("span", { class: "move" }, word)));
 
-type Frame = { move: string; total: number; views: Record<Side, View> };
-
 export class Nets {
   #nets = { normal: emptyNet(), inverse: emptyNet() };
-  #views: Record<Side, View> | null = null;
+  #views: Views | null = null;
   #total = 0;
   #looks: ReturnType<typeof looksOf> = [];
   #last = 0;
@@ -110,7 +107,7 @@ export class Nets {
   }
 
   /** Shows a cube, and the line that leads to it from the scramble. @param ask for the cube after each move */
-  show(views: Record<Side, View>, walk: Walk, ask: () => Promise<Frame[]>) {
+  show(views: Views, walk: Walk, ask: () => Promise<Frame[]>) {
     this.stop();
     // a list marks once it is there
     [this.#pointed, this.#open, this.#views] = ["", "", views];

@@ -1,5 +1,5 @@
 // What is left of rows: by what is chosen, by the cases that are pressed, by turns that are typed, by the last.
-import { announce, announceLater, counted, element, grouped, inner, part, tell } from "../shared/element.js";
+import { announce, announceLater, button, counted, element, grouped, inner, part, tell } from "../shared/element.js";
 import {
   ORIENTATIONS, facesOnAxisOf, farnessOf, namesOf, reducedAfter, sidesOf, stateOf,
 } from "../shared/offered-steps.js";
@@ -51,8 +51,8 @@ export function offerCases(name: string, all: string[][]) {
     };
     const about = { class: "quiet chip", "data-case": each, "aria-pressed": String(isPressed), click: press };
     const count = counts.get(each) ?? 0;
-    return element("button", { type: "button", "aria-label": `${each}, ${counted(count, "row")}`, ...about },
-      element("span", { class: "case" }, each), ` ${grouped(count)}`);
+    return button([element("span", { class: "case" }, each), ` ${grouped(count)}`],
+      { "aria-label": `${each}, ${counted(count, "row")}`, ...about });
   }));
   if (focused) inner(chips, `[data-case="${focused}"]`).focus({ preventScroll: true });
 }

@@ -13,13 +13,14 @@ export type Row = {
   rank: number;
 };
 /** If it `isWhole` more than the first rows are asked for. */
-export type Question = { scramble: string; parts: Part[]; reached: string[]; slack: number; isWhole?: boolean };
+export type Question = { scramble: string; parts: Part[]; reached: Step[]; slack: number; isWhole?: boolean };
 /** How many ways on were tried, and how many of all axes are done. */
 export type Progress = { tried: number; done: number; all: number };
 /** The best, and how many there are. */
 export type FoundOnAxis = { rows: Row[]; tried: number };
 /** Of all axes; `count`: of all that are kept. */
 export type Found = FoundOnAxis & { count: number; isWhole: boolean };
+export type Further = Found & { slack: number };
 
 /** The rows that come in once as many are shown of all: those that aren't seen yet. */
 export function joiningRows(seen: Row[], rows: Row[], room: number) {
@@ -40,7 +41,7 @@ const nameOfSearch = ({ scramble, parts, slack }: Question) => JSON.stringify([s
 
 /** What was found of the last questions, so that an undo shows it at once, longer rows too. */
 export class KnownSearches {
-  #found = new Map<string, Found & { slack: number }>();
+  #found = new Map<string, Further>();
 
   of(question: Question) {
     return this.#found.get(nameOfSearch(question));
@@ -52,7 +53,7 @@ export class KnownSearches {
     return found.find((each) => each !== undefined) ?? null;
   }
 
-  keep(question: Question, found: Found & { slack: number }) {
+  keep(question: Question, found: Further) {
     this.#found.set(nameOfSearch(question), found);
     if (this.#found.size > MOST_KEPT_SEARCHES) this.#found.delete(this.#found.keys().next().value);
   }
@@ -69,7 +70,6 @@ export function together(each: FoundOnAxis[], question: Question): Found {
   return { rows, tried, isWhole, count: isWhole ? rows.length : Math.min(tried, kept) };
 }
 
-/** Finds the best of one axis. @param tell told how many were tried */
 export function findOnAxis(finders: Calls[], axis: number, question: Question, tell: (tried: number) => void) {
   const finder = finders[axis];
   // it is needed now, and its tables may wait

@@ -1,14 +1,13 @@
 // Longer orientations, one move and then two, which nobody asked for. They are looked for while the page is seen and
 // waits for nothing else, as long as a measure allows them, and after that once they are asked for.
 import { present, thrownError } from "../shared/certain.js";
-import { findOnAxis, together, type Found, type FoundOnAxis, type Question } from "./finder.js";
+import { findOnAxis, together, type FoundOnAxis, type Further, type Question } from "./finder.js";
 import { Measure, isSmall, mostTogether } from "./measure.js";
 import { ORIENTATIONS } from "../shared/offered-steps.js";
 import { waitsForAnswers } from "../shared/view.js";
 import type { Calls } from "../shared/questions.js";
 import type { Size } from "../answers/orientations.js";
 
-export type Further = Found & { slack: number };
 /** `sizes`: how many orientations each axis has, once they are counted; `isHeld`: it waits until it is asked for;
  * `found`: of the axes that were looked through; `left`: those that are still to be looked at. */
 type Search = {
@@ -33,7 +32,7 @@ export class FurtherSearch {
   #search: Search | null = null;
 
   constructor(private readonly finders: Calls[], private readonly acts: FurtherActs) {
-    document.addEventListener("visibilitychange", () => (document.hidden ? this.#pause() : this.#wait()));
+    document.addEventListener("visibilitychange", () => this.#wait());
   }
 
   /** `on`: or waits for a moment in which it may; `held`: until it is asked for; `counting`: so, not yet counted. */
@@ -52,7 +51,7 @@ export class FurtherSearch {
   hold() {
     if (this.#search === null) return;
     this.#search.isHeld = true;
-    for (const at of this.#search.running) this.finders[at].stop();
+    this.#giveUp(this.#search);
   }
 
   release() {
@@ -81,18 +80,16 @@ export class FurtherSearch {
     this.#search = null;
   }
 
-  /** Gives up what is looked at until the page is seen again. */
-  #pause() {
-    clearTimeout(this.#timer);
-    if (this.#search === null || this.state === "held") return;
-    for (const at of this.#search.running) this.finders[at].stop();
-    this.acts.turned();
+  #giveUp({ running }: Search) {
+    for (const at of running) this.finders[at].stop();
   }
 
+  /** Waits for a moment in which it may go on; if the page isn't seen, until it is. */
   #wait() {
     clearTimeout(this.#timer);
     if (this.#search === null || this.state === "held") return;
-    this.#timer = setTimeout(() => this.#goOn(), IDLE_FOR);
+    if (document.hidden) this.#giveUp(this.#search);
+    else this.#timer = setTimeout(() => this.#goOn(), IDLE_FOR);
     this.acts.turned();
   }
 

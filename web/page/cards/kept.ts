@@ -83,6 +83,7 @@ export class KeptCandidates {
   /** the names of those that are to be compared, and of those whose set-ups are seen */
   #compared: string[] = [];
   #unfolded = new Set<string>();
+  /** whether a star changes them, which moves nothing beside them */ #isStarred = false;
   /** takes the text of all once it is known what they are, if they are to be copied then */
   #toCopy: ((text: string) => void) | null = null;
   #list = part("kept-list");
@@ -120,12 +121,14 @@ export class KeptCandidates {
   }
 
   /** Keeps a line, or takes it away if it is kept. @param pressed under which is said why it isn't kept */
-  star(state: State, pressed: HTMLElement, parts: Part[], next = "") {
+  star(state: State, pressed: HTMLElement, parts: Part[], next: Candidate["next"] = "") {
     const kept = withStar(state.kept, parts, next);
     const isKept = kept.length > state.kept.length;
     if (kept.length > MOST_CANDIDATES) return tellAt(pressed, MOST_ARE_KEPT);
     if (!fitsAddress({ ...state, kept })) return tellAt(pressed, NO_ROOM);
+    this.#isStarred = true;
     withoutMoving(part("results"), () => (isKept ? this.acts.change(kept) : this.leave(kept)));
+    this.#isStarred = false;
     announce(`${spoken(bracketed(parts))}: ${isKept ? "kept" : "no longer kept"}.`);
   }
 
@@ -151,12 +154,13 @@ export class KeptCandidates {
   async describe(scramble: string, written: string) {
     const candidates = this.#candidates;
     if (this.#scramble === written && this.#walks.length === candidates.length) return;
+    const isStarred = this.#isStarred;
     try {
       const walks = await this.calls.ask("walkKept", { scramble, candidates });
       if (candidates !== this.#candidates) return;
       this.#walks = walks;
       [this.#scramble, this.#line] = [written, scramble];
-      this.#draw();
+      withoutMoving(part(isStarred ? "results" : "kept"), () => this.#draw());
       this.#toCopy?.(this.#text());
     } catch (fault) {
       if (candidates !== this.#candidates || fault instanceof Stopped) return;
@@ -164,7 +168,7 @@ export class KeptCandidates {
     }
   }
 
-  has(parts: Part[], next = "") {
+  has(parts: Part[], next: Candidate["next"] = "") {
     return this.#candidates.some((each) => nameOf(each) === nameOf({ parts, next }));
   }
 
@@ -232,7 +236,7 @@ export class KeptCandidates {
   #goOn({ parts, next }: Candidate, walk: KeptWalk | null) {
     // as long as it isn't known where the best are, over both sides
     const list: List | null = next === "" || walk?.next === null ? null
-      : { step: stepNamed(next).name, side: walk ? sidesOf(walk.next.dr) : "both", slack: 0, isAll: false };
+      : { step: next, side: walk ? sidesOf(walk.next.dr) : "both", slack: 0, isAll: false };
     this.acts.goOn(parts, list);
   }
 
@@ -241,6 +245,7 @@ export class KeptCandidates {
     const others = this.#compared.filter((each) => each !== name);
     this.#compared = others.length < this.#compared.length ? others : [...others, name].slice(-MOST_COMPARED);
     this.#draw();
+    announce(`${counted(this.#compared.length, "line")} to compare.`);
   }
 
   #unfold(name: string) {

@@ -5,7 +5,7 @@ import { Filters, NOT_MOVES, ofCases, offerCases, offerMoves, withTurns } from "
 import { GREATEST_SLACK } from "../state/limits.js";
 import { addRows, roveWithin, showRows, starButton, takeButton, takeNamed, type StarActs } from "../shared/rows.js";
 import { axisName, partOf, reductionsAfter, stateOf, stepNamed, titleOf, type Part } from "../shared/offered-steps.js";
-import { signsOfCases, triggerOf } from "../shared/passage.js";
+import { signsOfCases, triggerOf, wordsOfTrigger } from "../shared/passage.js";
 import { sidesOfTwins, wordsOfTwins, type Entry } from "../shared/twins.js";
 import { comesSoon, type Calls } from "../shared/questions.js";
 import type { Rows } from "../answers/list-rows.js";
@@ -36,9 +36,8 @@ function noteOfList({ entries, all, whole }: Rows, matching: number, shown: numb
 
 /** What entries that stand together have in common: how long they are, and from which case their trigger goes. */
 function nameOfGroup({ length, total, passed = [] }: Entry) {
-  const trigger = triggerOf(passed);
   const inAll = total === undefined ? [] : [`${total} in all`];
-  return [counted(length, "move"), ...inAll, ...(trigger === "" ? [] : [`trigger from ${trigger}`])].join(", ");
+  return [counted(length, "move"), ...inAll, ...wordsOfTrigger(passed)].join(", ");
 }
 
 const signsOf = ({ moves, passed = [] }: Entry) => Math.ceil(moves.length + signsOfCases(passed));

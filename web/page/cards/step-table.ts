@@ -1,5 +1,5 @@
 // The table of the steps that may follow: of each what solvers choose it by, and its counts on each side.
-import { counted, element, grouped, part, tell, withData } from "../shared/element.js";
+import { button, counted, element, grouped, part, tell, withData } from "../shared/element.js";
 import {
   SIDES, isReduced, nameOfSide, stateOf, statesOf, titleOf, type OfferedStep, type Part, type Side, type Step,
 } from "../shared/offered-steps.js";
@@ -8,7 +8,7 @@ import type { Counted, Examined, Offer, Unexamined } from "../answers/examine.js
 import type { Facts } from "../../module/shared/facts.js";
 import type { List } from "../state/address.js";
 
-export type Cube = { facts: Facts; made: number; reached: string[] };
+export type Cube = { facts: Facts; made: number; reached: Step[] };
 type Opened = { step: OfferedStep; side: List["side"]; said: string; isLeast: boolean };
 
 /** The least length, what that makes in all after moves, how many solutions make that, and a word that is only said. */
@@ -41,7 +41,7 @@ const wordsOfAnew = (state: string) => `Going on from here, this ${state} given 
 const areReductions = ([{ step }]: Offer[]) => step.needs !== null;
 
 /** Whether some offers keep what is reached: each does where that is nothing, and a reduction keeps its orientation. */
-const keepsReached = (offers: Offer[], reached: string[]) =>
+const keepsReached = (offers: Offer[], reached: Step[]) =>
   reached.length === 0 || (areReductions(offers) && !isReduced(reached));
 
 const leastOf = (offers: Offer[]) => Math.min(...offers.flatMap(({ normal, inverse, both }) =>
@@ -154,12 +154,11 @@ export class StepTable {
     return [" ", this.#opener({ step, side: "both", said, isLeast: both === least }, length, words)];
   }
 
-  /** What opens the list of a step on one side, or over both. */
   #opener({ step, side, said, isLeast }: Opened, length: string, words: HTMLElement) {
-    return element("button", {
-      type: "button", class: isLeast ? "cell least" : "cell", "data-cell": `${step.name}.${side}`,
+    return button([element("strong", {}, length), words], {
+      class: isLeast ? "cell least" : "cell", "data-cell": `${step.name}.${side}`,
       "aria-label": `${titleOf(step)}, ${said}${isLeast ? ", shortest" : ""}`,
       click: () => this.chosen(step.name, side),
-    }, element("strong", {}, length), words);
+    });
   }
 }

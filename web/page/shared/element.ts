@@ -35,8 +35,8 @@ export function element(name: string, attributes: Attributes = {}, ...children: 
   return made as PageElement;
 }
 
-export const button = (text: string, attributes: Attributes) =>
-  element("button", { type: "button", ...attributes }, text);
+export const button = (content: string | (Node | string)[], attributes: Attributes) =>
+  element("button", { type: "button", ...attributes }, ...[content].flat());
 
 /** Shows text in an element, and hides the element where there is none. */
 export function tell(where: HTMLElement, text: string) {
@@ -74,6 +74,8 @@ export const grouped = (count: number) => String(count).replace(/\B(?=(?:\d{3})+
 
 /** A number with its word: `1 move`, `1,200 moves`. */
 export const counted = (count: number, word: string) => `${grouped(count)} ${word}${count === 1 ? "" : "s"}`;
+
+export const shortened = (text: string, most: number) => (text.length > most ? `${text.slice(0, most)}…` : text);
 
 /** Moves as they are said, since an apostrophe isn't read as solvers read it. */
 export const spoken = (moves: string) => moves.replace(/'/g, " prime").replace(/\(/g, "on the inverse side ")

@@ -24,9 +24,9 @@ export const ORIENTATIONS = OFFERED.filter(({ needs }) => needs === null);
 export const REDUCTIONS = OFFERED.filter(({ needs }) => needs !== null);
 
 export const isOffered = (name: string): name is Step => OFFERED.some((step) => step.name === name);
-export const isReduction = (name: string) => REDUCTIONS.some((step) => step.name === name);
-export const stepNamed = (name: string): OfferedStep => present(OFFERED.find((step) => step.name === name));
-export const reductionsAfter = (orientation: string) => REDUCTIONS.filter(({ needs }) => needs === orientation);
+export const isReduction = (name: string): name is Step => REDUCTIONS.some((step) => step.name === name);
+export const stepNamed = (name: Step): OfferedStep => present(OFFERED.find((step) => step.name === name));
+export const reductionsAfter = (orientation: Step) => REDUCTIONS.filter(({ needs }) => needs === orientation);
 export const isSide = (name: string): name is Side => SIDES.some((side) => side === name);
 
 /** An axis as solvers write it, such as `F/B`. */
@@ -38,18 +38,18 @@ export const namesOf = (steps: readonly OfferedStep[]) => steps.map(({ name }) =
 export const stateOf = (step: OfferedStep) => `${step.needs === null ? "EO" : "DR"} ${axisName(step.axis)}`;
 
 /** What may be reached by a reduction where some orientations hold. */
-export const reducedAfter = (orientations: string[]) =>
+export const reducedAfter = (orientations: Step[]) =>
   [...new Set(orientations.flatMap(reductionsAfter).map(stateOf))];
 
 export const titleOf = (step: OfferedStep) =>
   stateOf(step) + (step.needs === null ? "" : ` after ${stateOf(stepNamed(step.needs))}`);
 
 /** The steps that may start where others are reached, and aren't reached themselves. */
-export const openSteps = (reached: string[]) =>
+export const openSteps = (reached: Step[]) =>
   OFFERED.filter(({ name, needs }) => !reached.includes(name) && (needs === null || reached.includes(needs)));
 
-export const statesOf = (reached: string[]) => [...new Set(reached.map((name) => stateOf(stepNamed(name))))];
-export const isReduced = (reached: string[]) => reached.some(isReduction);
+export const statesOf = (reached: Step[]) => [...new Set(reached.map((name) => stateOf(stepNamed(name))))];
+export const isReduced = (reached: Step[]) => reached.some(isReduction);
 
 /** Of what holds only the reductions, which say the orientations that hold with them; all if there are none. */
 export function furthestOf(states: string[]) {
@@ -58,19 +58,17 @@ export function furthestOf(states: string[]) {
 }
 
 /** What a step of a line newly reaches. */
-export function newlyReached({ reached }: { reached: string[][] }, index: number) {
+export function newlyReached({ reached }: { reached: Step[][] }, index: number) {
   const before = statesOf(reached[index]);
   return furthestOf(statesOf(reached[index + 1]).filter((state) => !before.includes(state)));
 }
 
 /** The same as it is said of a step: of one that solves, only that. */
-export const saidToBeReached = (walk: { reached: string[][]; facts: { solved: boolean }[] }, index: number) =>
+export const saidToBeReached = (walk: { reached: Step[][]; facts: { solved: boolean }[] }, index: number) =>
   (walk.facts[index + 1].solved ? ["solved"] : newlyReached(walk, index));
 
-/** A side as a heading has it. */
 export const nameOfSide = (side: Side) => (side === "normal" ? "Normal" : "Inverse");
 
-/** A step with what it has on each side on the other one. */
 export const onOtherSides = ({ normal, inverse }: Part): Part => ({ normal: inverse, inverse: normal });
 
 /** The moves of what may have more than these. */

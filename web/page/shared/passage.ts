@@ -33,7 +33,8 @@ export function withCases(text: string, cases: string[], shown = (moves: string)
   ]);
 }
 
-export function saidOfCases(cases: string[]) {
-  const [first, trigger] = [cases.slice(0, 1), triggerOf(cases)];
-  return [...first.map((each) => `from ${each}`), ...(trigger === "" ? [] : [`trigger from ${trigger}`])];
-}
+export const wordsOfTrigger = (cases: string[]) =>
+  [triggerOf(cases)].filter(Boolean).map((each) => `trigger from ${each}`);
+
+export const saidOfCases = (cases: string[]) =>
+  [...cases.slice(0, 1).map((each) => `from ${each}`), ...wordsOfTrigger(cases)];

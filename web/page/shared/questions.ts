@@ -57,9 +57,8 @@ export class Calls {
   #queue: WorkerQueue;
   /** How many answers are waited for, beside tables. */
   #asked = 0;
-  /** The steps whose tables are built. */
-  #ready = new Set<string>();
-  /** The steps whose tables are still to be built. */
+  /** The steps whose tables are built, and those whose are still to be. */
+  #ready = new Set<Step>();
   #unready: Step[] = [];
 
   constructor(newWorker: () => Promise<Worker>, module: SentModule) {
@@ -124,7 +123,7 @@ const REST = 150;
 type Workers = { calls: Calls; byHand: Calls; list: Calls; finders: Calls[] };
 
 /** What is made ready: `reached` by the line so far, and `isBare` if no scramble is there yet. */
-type Wanted = { reached: string[]; isBare: boolean };
+type Wanted = { reached: Step[]; isBare: boolean };
 
 export class Readiness {
   #timer = 0;
@@ -134,11 +133,7 @@ export class Readiness {
     document.addEventListener("visibilitychange", () => this.begin(this.#wanted));
   }
 
-  stop() {
-    this.begin(null);
-  }
-
-  /** Begins in a moment, while the page is seen and doesn't wait for answers. */
+  /** Begins in a moment, while the page is seen and doesn't wait for answers. @param wanted null ends it */
   begin(wanted: Wanted | null) {
     clearTimeout(this.#timer);
     this.#wanted = wanted;

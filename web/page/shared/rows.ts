@@ -1,9 +1,9 @@
 // Rows of moves, in a list or a table: what is pressed in each, how they come and go, and one stop of the Tab key for
 // all of them, with the arrow keys, Home and End from row to row, and from button to button within one.
 import { present } from "./certain.js";
-import { button, element, inner, part, spoken } from "./element.js";
+import { button, inner, part, spoken } from "./element.js";
 import { saidOfCases, withCases } from "./passage.js";
-import type { Moves as Part } from "../../module/shared/sides.js";
+import type { Part, Step } from "./offered-steps.js";
 
 /** The rows that were pressed since moves are covered. */
 const uncovered = new Set<string>();
@@ -15,15 +15,14 @@ const named = (open: string, covered: string) => ({ tabindex: -1, "data-open": o
 
 /** What is done with the moves of a row, and known of them. @param next the reduction after them */
 export type StarActs = {
-  star: (button: HTMLElement, parts: Part[], next?: string) => void;
-  isStarred: (parts: Part[], next?: string) => boolean;
-  isSeen: (parts: Part[], next?: string) => boolean;
+  star: (button: HTMLElement, parts: Part[], next?: Step) => void;
+  isStarred: (parts: Part[], next?: Step) => boolean;
+  isSeen: (parts: Part[], next?: Step) => boolean;
 };
 
 /** What a row is known by, what else is said of it, the cases that it passes, and whether it was taken. */
 type AboutRow = { key: string; twins?: string[]; cases?: string[]; passed?: string[]; isSeen: boolean };
 
-/** The button that takes the moves of a row. @param text the moves as they are shown */
 export function takeButton(
   text: string, { key, twins = [], cases = [], passed = [], isSeen }: AboutRow, click: () => void,
 ) {
@@ -32,7 +31,7 @@ export function takeButton(
   const open = [spoken(text), ...told, ...twins, ...seen].join(", ");
   const names = named(open, ["Covered moves", ...told, ...seen].join(", "));
   const about = { class: ["take moves", ...seen].join(" "), "data-key": key, ...names, click };
-  return element("button", { type: "button", ...about }, ...withCases(text, passed));
+  return button(withCases(text, passed), about);
 }
 
 export function starButton(text: string, isKept: () => boolean, click: (button: HTMLElement) => void) {

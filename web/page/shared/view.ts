@@ -4,8 +4,12 @@ import { store, stored } from "../state/storage.js";
 import type { State } from "../state/address.js";
 
 const EDGE = 16;
+/** How far the results are lowered beside what came above the cube, until the page is scrolled up again. */
+let lowered = 0;
+/** How far the page is scrolled beyond that. */
+export const howFar = () => scrollY - Math.round(lowered);
 export const areBeside = () => matchMedia("(min-width: 60rem)").matches;
-export const isAtTop = () => areBeside() && scrollY === 0;
+export const isAtTop = () => areBeside() && howFar() === 0;
 export const isNarrow = () => matchMedia("(max-width: 37.5rem)").matches;
 
 export const isBare = ({ scramble, parts }: State) => scramble.trim() === "" && parts.length === 0;
@@ -44,15 +48,29 @@ export function keepInView(column: HTMLElement) {
   };
   new ResizeObserver(place).observe(column);
   addEventListener("resize", place);
+  addEventListener("resize", () => lower(0));
+  addEventListener("scroll", () => howFar() < 0 && lower(scrollY));
   // the browser scrolls after the event, and would undo what is done in it
   column.addEventListener("focusin", ({ target }) => requestAnimationFrame(() => showFocused(column, target)));
 }
 
-/** Makes a change that may show or hide what stands above a part, without moving the part under a finger. */
+function lower(by: number) {
+  lowered = Math.max(0, by);
+  // the browser keeps still what is beside them then
+  const overflowAnchor = lowered > 0 ? "none" : "";
+  Object.assign(part("results").style, { marginTop: `${Math.round(lowered)}px`, overflowAnchor });
+}
+
+/** Makes a change that may show or hide what stands above a part, which isn't moved under a finger. Beside results that
+ * stay the cube does too: they are lowered as far as what came above that is high, and the page is scrolled. */
 export function withoutMoving(still: HTMLElement, change: () => void) {
-  const { top } = still.getBoundingClientRect();
+  const topsOf = () => [still, part("side-column")].map((each) => each.getBoundingClientRect().top);
+  const [top, beside] = topsOf();
   change();
-  scrollBy({ top: still.getBoundingClientRect().top - top, behavior: "instant" });
+  if (areBeside() && still.id === "results") lower(lowered + topsOf()[1] - beside);
+  scrollBy({ top: topsOf()[0] - top, behavior: "instant" });
+  // a page that is no higher isn't scrolled so far
+  if (howFar() < 0) lower(scrollY);
 }
 
 /** Has a card come into view, whose heading has the focus then. */
@@ -61,7 +79,6 @@ export function leadTo(card: HTMLElement, heading: HTMLElement, block: ScrollLog
   card.scrollIntoView({ block, behavior: "instant" });
 }
 
-/** Makes what rests on a readable scramble usable or not. */
 export function setUsable(usable: boolean) {
   for (const name of ["line", "results", "kept", "cube"]) part(name).inert = !usable;
 }

@@ -17,7 +17,6 @@ export function tellFailed(words: string) {
 
 const silent = new Set<Silence>();
 
-/** How long a worker has been silent. */
 class Silence {
   #timer = 0;
 

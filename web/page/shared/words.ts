@@ -3,9 +3,9 @@ import { EngineMissing, NissyFault, type FaultParts } from "../../module/shared/
 import { placeOf, type PlainLine } from "../../module/text/written.js";
 import { oneLine, type State } from "../state/address.js";
 import { thrownError } from "./certain.js";
-import { element } from "./element.js";
+import { element, shortened } from "./element.js";
 import { MOST_CANDIDATES, MOST_MOVES } from "../state/limits.js";
-import { bracketed, openSteps, stateOf, stepNamed, titleOf } from "./offered-steps.js";
+import { bracketed, openSteps, stateOf, stepNamed, titleOf, type Step } from "./offered-steps.js";
 import type { AttemptDoubt } from "../../module/text/attempts.js";
 import type { Unread } from "../answers/read-lines.js";
 
@@ -35,7 +35,7 @@ export function titleOfPage({ scramble, parts }: State) {
   const plain = scramble.replace(/[\p{Cc}\p{Cf}\u2028\u2029]/gu, " ").trim();
   const words = [bracketed(parts), plain].filter(Boolean).join(" · ");
   if (words === "") return `${PAGE_NAME}: edge orientation and domino reduction`;
-  return `${words.slice(0, MOST_SIGNS)}${words.length > MOST_SIGNS ? "…" : ""} – ${PAGE_NAME}`;
+  return `${shortened(words, MOST_SIGNS)} – ${PAGE_NAME}`;
 }
 
 /** As what a line is read that turns the whole cube. */
@@ -45,7 +45,7 @@ export const wordsOfTurns = (line: string) =>
 export const wordsOfLeftOut = (leftOut: string[]) => (leftOut.length === 0 ? "" : `Left out: ${leftOut.join(", ")}.`);
 
 /** Why a step can't be listed, or "". */
-export function whyNotListed(name: string, reached: string[]) {
+export function whyNotListed(name: Step, reached: Step[]) {
   if (openSteps(reached).some((step) => step.name === name)) return "";
   const step = stepNamed(name);
   const { needs } = step;
@@ -94,8 +94,7 @@ function sentenceOf({ text, character }: FaultParts, line: string) {
 export function whyUnread(unread: Unread | null) {
   if (unread === null) return "";
   const { line, fault, rest } = unread;
-  const [shown, ...later] = [line, ...rest].map((each) =>
-    `“${visible(each.slice(0, MOST_SIGNS))}${each.length > MOST_SIGNS ? "…" : ""}”`);
+  const [shown, ...later] = [line, ...rest].map((each) => `“${visible(shortened(each, MOST_SIGNS))}”`);
   const after = later.length === 0 ? "" : ` Not read after it: ${later.join(", ")}.`;
   return `The steps of this text are read up to the line ${shown}: ${sentenceOf(fault, line)}${after}`;
 }
@@ -115,7 +114,7 @@ function marked(text: string, place: number) {
 type Turns = { turns: string; undoing: string };
 
 /** What is said of a doubt that a text is read as it was meant, and of the word there, with the turns named by it. */
-const WORDS_OF_DOUBTS: Record<string, (word: string, named: Turns | null) => string> = {
+const WORDS_OF_DOUBTS: Record<AttemptDoubt["reason"], (word: string, named: Turns | null) => string> = {
   "another scramble": () => "this may be more than a scramble, or none",
   "several solutions": () => "which solution counts, or the order of its steps, can't be told",
   side: (word, named) => {
@@ -134,6 +133,7 @@ const WORDS_OF_DOUBTS: Record<string, (word: string, named: Turns | null) => str
   "step or scramble": () => "moves of this line may be of a scramble, or of a step",
   signs: (word) => `“${word}” may stand for other moves than are read`,
   "another attempt": () => "another attempt may begin here",
+  "which scramble": () => "this may be of another scramble",
   "a part": () => "as a whole this doesn't solve the scramble, but a part of it does",
 };
 

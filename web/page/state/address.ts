@@ -1,12 +1,13 @@
 // The state of the page in its address, after the #, so that it can be kept and sent. What an address says is checked
 // piece by piece: each piece becomes a part of the state, or is left out and named.
 import { thrownError } from "../shared/certain.js";
+import { shortened } from "../shared/element.js";
 import { GREATEST_SLACK, LONGEST_NOTE, LONGEST_SCRAMBLE, MOST_CANDIDATES } from "./limits.js";
 import { SIDES, isOffered, isReduction, isSide, type Part, type Side, type Step } from "../shared/offered-steps.js";
 
 export type List = { step: Step; side: Side | "both"; slack: number; isAll: boolean };
 /** `next`: the reduction it was kept with, or "". */
-export type Candidate = { parts: Part[]; note: string; next: string };
+export type Candidate = { parts: Part[]; note: string; next: Step | "" };
 /** `longer`: by how many moves more than the shortest the orientations among the best may have. */
 export type State = {
   scramble: string; parts: Part[]; side: Side; list: List | null; kept: Candidate[]; longer: number;
@@ -102,7 +103,6 @@ function readCandidate(text: string): Candidate {
   return { parts: readParts(parts), note: plain, next };
 }
 
-/** What was read, or a fault. */
 function readOr<Value>(value: Value | undefined, why: string): Value {
   if (value === undefined) throw new Error(why);
   return value;
@@ -147,8 +147,7 @@ export function readAddress(hash: string): { state: State; fault: string } {
   const leftOut = [];
   for (const field of text.split("&").filter((each) => each !== "")) {
     const why = readField(state, field, said);
-    const name = field.split("=")[0];
-    if (why !== "") leftOut.push(`${name.slice(0, LONGEST_NAME)}${name.length > LONGEST_NAME ? "…" : ""} (${why})`);
+    if (why !== "") leftOut.push(`${shortened(field.split("=")[0], LONGEST_NAME)} (${why})`);
   }
   if (leftOut.length === 0) return { state, fault: "" };
   const more = leftOut.length > MOST_NAMED ? ` and ${leftOut.length - MOST_NAMED} more` : "";

@@ -3,8 +3,8 @@
 import { addressOf, fitsAddress, type List, type State } from "./address.js";
 import { fieldsOf } from "../shared/certain.js";
 import { part, tell } from "../shared/element.js";
-import { bracketed, type Part } from "../shared/offered-steps.js";
-import { leadTo } from "../shared/view.js";
+import { bracketed, type Part, type Step } from "../shared/offered-steps.js";
+import { howFar, leadTo } from "../shared/view.js";
 import { NOT_IN_ADDRESS } from "../shared/words.js";
 
 export type Place = { key: string; scroll: number };
@@ -16,7 +16,7 @@ export function placeIn(state: unknown): Place | null {
 }
 
 export const placeNow = (): Place =>
-  ({ key: document.activeElement?.dataset.key ?? document.activeElement?.dataset.cell ?? "", scroll: scrollY });
+  ({ key: document.activeElement?.dataset.key ?? document.activeElement?.dataset.cell ?? "", scroll: howFar() });
 
 /** The sheet that the entry of the history is of, 0 if that is of none, or null if it is new. */
 export function sheetOfEntry(): number | null {
@@ -24,7 +24,6 @@ export function sheetOfEntry(): number | null {
   return typeof sheet === "number" ? sheet : null;
 }
 
-/** Keeps something more in the entry that is shown. */
 function keepInEntry(more: Partial<Place & { sheet: number }>) {
   try {
     history.replaceState({ ...history.state, ...more }, "", location.href);
@@ -84,7 +83,7 @@ export class WayBack {
     const stays = scroll === null && document.activeElement?.matches("button:focus-visible");
     if (!stays) found?.focus({ preventScroll: true });
     if (scroll === null) found?.scrollIntoView({ block: "nearest", behavior: "instant" });
-    else scrollTo({ top: scroll, behavior: "instant" });
+    else scrollBy({ top: scroll - howFar(), behavior: "instant" });
   }
 }
 
@@ -121,7 +120,7 @@ export class WayTo {
   }
 }
 
-const nameOfSeen = (scramble: string, parts: Part[], next: string) =>
+const nameOfSeen = (scramble: string, parts: Part[], next: Step | "") =>
   JSON.stringify([scramble, bracketed(parts), next]);
 
 export class Seen {
@@ -129,9 +128,9 @@ export class Seen {
   #rows = new Map<string, { key: string; list: List | null }>();
 
   /** Keeps that a line was taken, from which row and beside which list, and with which step after it. */
-  add({ scramble, parts, list }: State, taken: Part[], key: string, next = "") {
+  add({ scramble, parts, list }: State, taken: Part[], key: string, next: Step | "" = "") {
     const all = [...parts, ...taken];
-    for (const step of new Set(["", next])) this.#names.add(nameOfSeen(scramble, all, step));
+    for (const step of new Set<Step | "">(["", next])) this.#names.add(nameOfSeen(scramble, all, step));
     // of a step that is split an undo leaves the half
     if (taken.length === 1) this.#rows.set(nameOfSeen(scramble, all, ""), { key, list });
   }
@@ -143,5 +142,5 @@ export class Seen {
     return (isUndone && this.#rows.get(nameOfSeen(scramble, parts, ""))) || null;
   }
 
-  has = (scramble: string, parts: Part[], next = "") => this.#names.has(nameOfSeen(scramble, parts, next));
+  has = (scramble: string, parts: Part[], next: Step | "" = "") => this.#names.has(nameOfSeen(scramble, parts, next));
 }

@@ -30,7 +30,7 @@ export const asCopied = (lines: Candidate[], copied: Copied[], own: Candidate[])
 }), ...(copied.length > 0 ? [] : own)];
 
 /** What is kept once a line is starred, or no longer if it was. */
-export function withStar(candidates: Candidate[], parts: Part[], next: string): Candidate[] {
+export function withStar(candidates: Candidate[], parts: Part[], next: Candidate["next"]): Candidate[] {
   const others = candidates.filter((each) => nameOf(each) !== nameOf({ parts, next }));
   return others.length === candidates.length ? [...others, { parts, note: "", next }] : others;
 }
@@ -49,7 +49,7 @@ export function withOthers(candidates: Candidate[], others: Candidate[]) {
 export function joinedStates(own: State, other: State): State {
   const shown = other.parts.length > 0 ? other : own;
   const isLeft = own.parts.length > 0 && bracketed(own.parts) !== bracketed(shown.parts);
-  const line = isLeft ? [{ parts: own.parts, note: "", next: "" }] : [];
+  const line: Candidate[] = isLeft ? [{ parts: own.parts, note: "", next: "" }] : [];
   const { kept } = withOthers(own.kept, [...other.kept, ...line, ...own.kept]);
   return { ...shown, list: shown.list ?? other.list, kept, longer: Math.max(own.longer, other.longer) };
 }
