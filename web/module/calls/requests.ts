@@ -51,9 +51,9 @@ export type Known = { scrambles?: readonly Text[] | undefined };
 
 /** What is wanted of the best ways on: `soFar`, the moves that were made after the scramble, those in brackets on its
  * inverse, else none; `slack`, how many turns longer the first step may be than the shortest on the scramble alone, on
- * its inverse alone, or over both, else none; `most`, how many rows, else 20; `nodes`, of each axis in a pool;
- * `milliseconds`, after which no piece is begun, of one length of the first step and one axis each, and the search is
- * cut: with a slack of 3 one may take some seconds. */
+ * its inverse alone, or over both, else none; `most`, how many rows, else 20; `milliseconds`, after which no piece is
+ * begun, of one length of the first step and one axis each, and the search is cut: with a slack of 3 one may take some
+ * seconds. In a pool each axis has `nodes` and `milliseconds` by itself. */
 export type BestWanted = Omit<Wanted, "limit"> & { soFar?: Text | undefined; milliseconds?: number | undefined };
 
 export const MOST_TURNS = 20;
